@@ -1,13 +1,15 @@
 //! Works that are timed: `bench WORK NUMBER..`, with `timed` as the last word for the microseconds of each. Its answer is
 //! written in any case, so that scripts can compare it. The works are `tree ITEMS`, `rope BYTES TIMES`, `search BYTES`,
 //! `snapshot BYTES`, `publish BYTES TIMES`, `edits`, `undo` and `anchors FRAGMENTS`, `forget COUNT`, `folds COUNT`,
-//! `endings BYTES EDITS`, and `locators`, at places that the standard input names. A command line may name several.
+//! `endings BYTES EDITS`, `opened` and `taken COUNT [KIND]`, and `locators`, at places that the standard input names. A command line may
+//! name several.
 #![tactic(auto)]
 
 mod buffers;
 mod endings;
 mod folds;
 mod naming;
+mod openings;
 mod publish;
 mod report;
 mod rope;
@@ -36,6 +38,8 @@ fn work<R: Threads + Wait + Sync>(
         "search" => Ok(rope::searches(rt, report, size)?),
         "folds" => Ok(folds::works(report, size)?),
         "endings" => Ok(endings::works(report, size, number(words, 2))?),
+        "opened" => Ok(openings::works(report, true, size, number(words, 2))?),
+        "taken" => Ok(openings::works(report, false, size, number(words, 2))?),
         "publish" => Ok(publish::works(rt, report, size, number(words, 2))?),
         work => Ok(buffers::works(report, work, size)?),
     }

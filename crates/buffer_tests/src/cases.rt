@@ -21,8 +21,8 @@ pub(crate) const AMPLE: Limits = Limits {
     entries: (1 << 40) - 1,
 };
 
-// Limits, where a buffer may have them.
-fn limits_of(limits: Limits) -> Limits
+/// Limits, where a buffer may have them.
+pub(crate) fn limits_of(limits: Limits) -> Limits
     ensures bytes { result.bytes ≤ 2 ^ 40 }
     ensures entries { result.entries ≤ 2 ^ 40 - 1 }
 {

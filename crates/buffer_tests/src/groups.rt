@@ -290,8 +290,8 @@ pub(crate) fn next(x: u64) -> u64 {
         .wrapping_add(1442695040888963407)
 }
 
-// An edit at a drawn place of a text of that many bytes.
-fn drawn_change(x: u64, len: u64) -> Change {
+/// An edit at a drawn place of a text of that many bytes.
+pub(crate) fn drawn_change(x: u64, len: u64) -> Change {
     let start = (x >> 20) % len.wrapping_add(1).max(1);
     let deleted = ((x >> 50) % 4).min(len.saturating_sub(start));
     let text = match (x >> 40) % 4 {
@@ -303,8 +303,8 @@ fn drawn_change(x: u64, len: u64) -> Change {
     (start, start.wrapping_add(deleted), text)
 }
 
-// The stamp of a drawn operation that is applied, if it is an edit.
-fn drawn_edit(buffer: &Buffer, x: u64) -> Option<Stamp> {
+/// The stamp of a drawn operation that is applied, if it is an edit.
+pub(crate) fn drawn_edit(buffer: &Buffer, x: u64) -> Option<Stamp> {
     let count = buffer.applied().len().max(1);
     match buffer.applied().get((x >> 20) % count) {
         Some(applied) => match applied.op() {

@@ -36,6 +36,10 @@ mod limits;
 #[cfg(test)]
 mod names;
 #[cfg(test)]
+mod open_rows;
+#[cfg(test)]
+mod openings;
+#[cfg(test)]
 mod operations;
 #[cfg(test)]
 mod pasts;

@@ -3,16 +3,19 @@
 //! Where no allocation fails, each call is called once. `bench/refused_calls.sh` refuses each allocation in turn.
 use crate::alike::{apply_alike, show_alike, wait_alike};
 use crate::cases::{AMPLE, open};
-use crate::operations::{Parts, Stamp, stamp};
+use crate::fault_rows::Given;
+use crate::open_rows::{EDIT, TEXT, UNDO};
+use crate::operations::{Parts, Stamp, operation, stamp};
 use crate::steps::{Step, comes, keeps, settle};
 use Parts::{Counts, Pieces};
 use Step::{Edit, Take};
 use Took::{Applied, Repeat, Waits};
 use lamport_clock::Lamport;
 use op_model::OpFault::{Conflict, Forked, PastEnd};
+use op_model::Operation;
 use std::alloc::Global;
 use sum_tree::OutOfMemory;
-use text_buffer::{Buffer, OpFault, Refused, Took};
+use text_buffer::{Buffer, Endings, OpFault, OpenFault, Refused, Took};
 
 // How often a call is called at most.
 const TRIES: u32 = 4;
@@ -272,4 +275,40 @@ fn stopped_calls_end_as_others(rt: HostRuntime) {
     for (i, mix) in MIXES.iter().enumerate() {
         assert!(rt; holds_at_last(rt.alloc(), mix), "mix {i}");
     }
+}
+
+// ---- Opening a list.
+
+const LIST: &[Given] = &[TEXT, EDIT, UNDO];
+
+fn list(alloc: Global) -> Result<Vec<Operation>, OutOfMemory> {
+    let mut ops = Vec::new(alloc);
+    for &(at, seen, parts) in LIST {
+        ops.push(operation(alloc, at, seen, parts)?)?;
+    }
+    Ok(ops)
+}
+
+// Whether a list opens with its text.
+fn opens(alloc: Global) -> Result<bool, OutOfMemory> {
+    match Buffer::open(alloc, 9, list(alloc)?, AMPLE, Endings::Lf) {
+        Ok(buffer) => Ok(buffer.text()?.as_str() == "aé" && keeps(&buffer, 0, &[])),
+        Err(OpenFault::OutOfMemory) => Err(OutOfMemory),
+        Err(_) => Ok(false),
+    }
+}
+
+// The same, once more where an allocation failed.
+fn opens_at_last(alloc: Global) -> bool {
+    for _ in 0..TRIES {
+        if let Ok(right) = opens(alloc) {
+            return right;
+        }
+    }
+    true
+}
+
+#[test]
+fn a_list_that_was_stopped_opens(rt: HostRuntime) {
+    assert!(rt; opens_at_last(rt.alloc()));
 }

@@ -4,7 +4,7 @@ use Rattle.std.specs.Prelude.{codes}
 use Rattle.clap.proofs.OnLiterals.{clap_on_literals}
 use Rattle.command_words.specs.Words.{command_with}
 use Rattle.command_words.specs.declared.command.Command.TheVariants.{Make, Read}
-use Rattle.command_words.specs.declared.command.Task.TheVariants.{Check, Replay}
+use Rattle.command_words.specs.declared.command.Task.TheVariants.{Check, Migrate, Replay}
 
 pub no_workers_named : command_with (codes "replay" ∷ []) ≡ Some (Read (Replay 2))
 unfolding clap_on_literals
@@ -33,6 +33,14 @@ made_of_no_replica = refl
 pub checked : command_with (codes "check" ∷ []) ≡ Some (Read Check)
 unfolding clap_on_literals
 checked = refl
+
+pub migrated : command_with (codes "migrate" ∷ []) ≡ Some (Read Migrate)
+unfolding clap_on_literals
+migrated = refl
+
+pub migrated_with_workers : command_with (codes "migrate" ∷ codes "--workers" ∷ codes "2" ∷ []) ≡ None
+unfolding clap_on_literals
+migrated_with_workers = refl
 
 pub no_words : command_with [] ≡ None
 unfolding clap_on_literals

@@ -11,7 +11,7 @@ use Rattle.clap.specs.declared.builder.value_parser.ValueParser.{ValueParser}
 use Rattle.clap.specs.declared.builder.value_parser.ValueParser.TheVariants.{Unsigned}
 use Rattle.command_words.specs.declared.command.Command.{Command}
 use Rattle.command_words.specs.declared.command.Command.TheVariants.{Make, Read}
-use Rattle.command_words.specs.declared.command.Task.TheVariants.{Check, Replay}
+use Rattle.command_words.specs.declared.command.Task.TheVariants.{Check, Migrate, Replay}
 
 -- ---- the command line, as `clap` is told it
 
@@ -43,13 +43,19 @@ make_line =
     (wanted_rule (codes "replicas") (Unsigned 1 16)))
     (wanted_rule (codes "edits") (Unsigned 0 20000))
 
+-- `migrate`
+abbrev pub migrate_line : App
+migrate_line = new_app (codes "migrate")
+
 -- the program without its commands: it has no name of a program before it, and asks for a command
 abbrev pub program : App
 program = on_top (λ s. record s { no_binary_name = true; subcommand_required = true }) (new_app (codes "zedbuf"))
 
--- one of the three
+-- one of the four
 abbrev pub command_line : App
-command_line = with_subcommand (with_subcommand (with_subcommand program replay_line.top) check_line.top) make_line.top
+command_line =
+    with_subcommand (with_subcommand (with_subcommand (with_subcommand program
+    replay_line.top) check_line.top) make_line.top) migrate_line.top
 
 -- ---- the command
 
@@ -80,6 +86,7 @@ command_from name found =
     if bytes_eq name (codes "replay") then replay_from found
     else if bytes_eq name (codes "check") then Some (Read Check)
     else if bytes_eq name (codes "make") then make_from found
+    else if bytes_eq name (codes "migrate") then Some (Read Migrate)
     else None
 
 -- the command of the words where `clap` finds no fault in them
@@ -102,4 +109,5 @@ clap_takes words = is_empty (fault_of command_line (map string_bytes words))
 abbrev pub IsInRange : Command → Type 0
 IsInRange (Read (Replay workers)) = workers ≤ 16
 IsInRange (Read Check) = ⊤
+IsInRange (Read Migrate) = ⊤
 IsInRange (Make seed replicas edits) = (seed < 2 ^ 31) × (1 ≤ replicas) × (replicas ≤ 16) × (edits ≤ 20000)

@@ -7,6 +7,8 @@ pub enum Task {
     Replay { workers: u32 },
     /// `check`: a line with what is counted of it.
     Check,
+    /// `migrate`: it is written as a session of version 2.
+    Migrate,
 }
 
 /// What the words of a command line ask for.

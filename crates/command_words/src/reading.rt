@@ -58,6 +58,8 @@ fn command_from(name: &str, matches: &ArgMatches<'_>) -> Option<Command>
         Some(Command::Read(Task::Check))
     } else if name == "make" {
         make_from(matches)
+    } else if name == "migrate" {
+        Some(Command::Read(Task::Migrate))
     } else {
         None
     }

@@ -14,15 +14,15 @@ use Rattle.session_lines.specs.declared.fault.DecodeFault.TheVariants.{Lines, Ba
 
 -- ---- lines are counted before any is read
 
-pub session_of_many : (input : List ℕ) → lines_limit < length (lines_of input) → session_of_text input ≡ Err (Lines (length (lines_of input)))
+pub session_of_many : (m : Bool) (input : List ℕ) → lines_limit < length (lines_of input) → session_of_text m input ≡ Err (Lines (length (lines_of input)))
 unfolding session_of_text
-session_of_many input h = ap (λ b. cond b (Err (Lines (length (lines_of input)))) (session_of (lines_of input))) (lt-ltb lines_limit (length (lines_of input)) h)
+session_of_many m input h = ap (λ b. cond b (Err (Lines (length (lines_of input)))) (session_of m (lines_of input))) (lt-ltb lines_limit (length (lines_of input)) h)
 
 -- a text without a byte has no line
-pub session_of_nothing : (input : List ℕ) → length input ≡ 0 → (session_of_text input ≡ Err (Bad 1 Header)) × (length (lines_of input) ≡ 0)
+pub session_of_nothing : (m : Bool) (input : List ℕ) → length input ≡ 0 → (session_of_text m input ≡ Err (Bad 1 Header)) × (length (lines_of input) ≡ 0)
 unfolding session_of_text
-session_of_nothing [] h = (refl, refl)
-session_of_nothing (x ∷ xs) h = absurd (omega arith)
+session_of_nothing m [] h = (refl, refl)
+session_of_nothing m (x ∷ xs) h = absurd (omega arith)
 
 -- ---- else a line is bad
 
@@ -36,9 +36,9 @@ then_bad : {A B : Type 0} (n : ℕ) (r : Result A Word) (next : A → Result B D
 then_bad n (Err w) next h = tt
 then_bad n (Ok x) next h = h x
 
-rest_bad : (ids : List ℕ) (before : List SessionLine) (ls : List (List ℕ)) → IsBad (rest_of ids before ls)
-rest_bad ids before [] = tt
-rest_bad ids before (l ∷ ls) = then_bad (2 + length before) (line_of ids before l) (λ x. rest_of ids (before ++ x ∷ []) ls) (λ x. rest_bad ids (before ++ x ∷ []) ls)
+rest_bad : (m : Bool) (h : FirstLine) (before : List SessionLine) (ls : List (List ℕ)) → IsBad (rest_of m h before ls)
+rest_bad m h before [] = tt
+rest_bad m h before (l ∷ ls) = then_bad (2 + length before) (line_of m h before l) (λ x. rest_of m h (before ++ x ∷ []) ls) (λ x. rest_bad m h (before ++ x ∷ []) ls)
 
 with_bad : (h : FirstLine) (r : Result (List SessionLine) DecodeFault) → IsBad r → IsBad (with_header h r)
 with_bad h (Ok ls) b = tt
@@ -46,28 +46,28 @@ with_bad h (Err (Lines n)) b = b
 with_bad h (Err (Bad n w)) b = tt
 with_bad h (Err OutOfMemory) b = b
 
-session_bad : (ls : List (List ℕ)) → IsBad (session_of ls)
-session_bad [] = tt
-session_bad (l ∷ ls) = then_bad 1 (header_of l) (λ h. with_header h (rest_of h.replicas [] ls)) (λ h. with_bad h (rest_of h.replicas [] ls) (rest_bad h.replicas [] ls))
+session_bad : (m : Bool) (ls : List (List ℕ)) → IsBad (session_of m ls)
+session_bad m [] = tt
+session_bad m (l ∷ ls) = then_bad 1 (header_of m l) (λ h. with_header h (rest_of m h [] ls)) (λ h. with_bad h (rest_of m h [] ls) (rest_bad m h [] ls))
 
-not_bad : (ls : List (List ℕ)) (e : DecodeFault) → session_of ls ≡ Err e → IsBad {A = Session} (Err e)
-not_bad ls e h = subst (IsBad {A = Session}) h (session_bad ls)
+not_bad : (m : Bool) (ls : List (List ℕ)) (e : DecodeFault) → session_of m ls ≡ Err e → IsBad {A = Session} (Err e)
+not_bad m ls e h = subst (IsBad {A = Session}) h (session_bad m ls)
 
 -- too many lines are reported only where there are too many
-lines_by : (input : List ℕ) (n : ℕ) (b : Bool) → nat_lt lines_limit (length (lines_of input)) ≡ b
-    → cond b (Err (Lines (length (lines_of input)))) (session_of (lines_of input)) ≡ Err (Lines n) → lines_limit < length (lines_of input)
-lines_by input n true l e = ltb-true lines_limit (length (lines_of input)) l
-lines_by input n false l e = absurd (not_bad (lines_of input) (Lines n) e)
+lines_by : (m : Bool) (input : List ℕ) (n : ℕ) (b : Bool) → nat_lt lines_limit (length (lines_of input)) ≡ b
+    → cond b (Err (Lines (length (lines_of input)))) (session_of m (lines_of input)) ≡ Err (Lines n) → lines_limit < length (lines_of input)
+lines_by m input n true l e = ltb-true lines_limit (length (lines_of input)) l
+lines_by m input n false l e = absurd (not_bad m (lines_of input) (Lines n) e)
 
-pub too_many : (input : List ℕ) (n : ℕ) → session_of_text input ≡ Err (Lines n) → lines_limit < length (lines_of input)
+pub too_many : (m : Bool) (input : List ℕ) (n : ℕ) → session_of_text m input ≡ Err (Lines n) → lines_limit < length (lines_of input)
 unfolding session_of_text
-too_many input n e = lines_by input n (nat_lt lines_limit (length (lines_of input))) refl e
+too_many m input n e = lines_by m input n (nat_lt lines_limit (length (lines_of input))) refl e
 
-never_by : (input : List ℕ) (b : Bool) → cond b (Err (Lines (length (lines_of input)))) (session_of (lines_of input)) ≡ Err OutOfMemory → ⊥
-never_by input true e = cc
-never_by input false e = not_bad (lines_of input) OutOfMemory e
+never_by : (m : Bool) (input : List ℕ) (b : Bool) → cond b (Err (Lines (length (lines_of input)))) (session_of m (lines_of input)) ≡ Err OutOfMemory → ⊥
+never_by m input true e = cc
+never_by m input false e = not_bad m (lines_of input) OutOfMemory e
 
 -- a failed allocation is no part of what a text is
-pub never_memory : (input : List ℕ) → session_of_text input ≡ Err OutOfMemory → ⊥
+pub never_memory : (m : Bool) (input : List ℕ) → session_of_text m input ≡ Err OutOfMemory → ⊥
 unfolding session_of_text
-never_memory input e = never_by input (nat_lt lines_limit (length (lines_of input))) e
+never_memory m input e = never_by m input (nat_lt lines_limit (length (lines_of input))) e

@@ -1,9 +1,9 @@
 -- What a session keeps of its header: a base no longer than the text, and 1 to 64 distinct ids of replicas.
 use Rattle.op_model.specs.Operations.{last_replica}
 use Rattle.op_model.specs.Domains.{IsReplica}
-use Rattle.std.proofs.Common.{◌≡◌, ◌⊎◌, inl, inr, ℕ, suc, ◌≤◌, Bool, true, false, cond, ◌&&◌, ◌==◌, nat_le, List, [], ◌∷◌, length, get_or, Option, Some, None, option_map, option_and_then, Result, Ok, Err, refl, subst, arith}
-use Rattle.std.specs.Prelude.{⊤, codes, ok_or}
-use Rattle.std.specs.List.{All, AllByRecursion, list_all, onto_first}
+use Rattle.std.proofs.Common.{◌≡◌, ◌⊎◌, inl, inr, ℕ, suc, ◌≤◌, Bool, true, false, cond, ◌&&◌, ◌==◌, nat_le, nat_lt, List, [], ◌∷◌, length, get_or, Option, Some, None, option_map, option_and_then, Result, Ok, Err, refl, subst, arith}
+use Rattle.std.specs.Prelude.{⊤, codes}
+use Rattle.std.specs.List.{All, AllByRecursion, list_all, list_any, onto_first}
 use Rattle.std.specs.Str.{is_utf8}
 use Rattle.std.proofs.lemmas.Bool.{and_parts, leb-true}
 use Rattle.std.proofs.lemmas.List.Sums.{AllPass-from_list_all}
@@ -14,13 +14,16 @@ use Rattle.session_lines.specs.Json.{value_of, list_of, members_of, is_text, is_
 use Rattle.session_lines.specs.Cut.{lines_of}
 use Rattle.session_lines.specs.Parts.{all_of, id_of_value, are_distinct}
 use Rattle.session_lines.specs.Heading.{is_replica, most_replicas, are_replicas, replicas_from, format_of_value, header_with, header_from, header_of_value}
-use Rattle.session_lines.specs.Session.{header_or_word, header_of, then_from, rest_of, with_header, session_of, IsSession}
+use Rattle.op_model.specs.Choice.{when}
+use Rattle.op_model.specs.Rules.{is_return}
+use Rattle.session_lines.specs.Session.{bars_return, unless, value_or_word, header_or_word, header_of, then_from, rest_of, with_header, session_of, session_of_text, lines_limit, IsSession}
 use Rattle.session_lines.specs.declared.header.Header.{Header}
 use Rattle.session_lines.specs.declared.session.SessionLine.{SessionLine}
 use Rattle.session_lines.specs.declared.session.Session.{Session}
 use Rattle.session_lines.specs.declared.fault.Word.{Word}
 use Rattle.session_lines.specs.declared.fault.Word.TheVariants as word
 use Rattle.session_lines.specs.declared.fault.DecodeFault.{DecodeFault}
+use Rattle.session_lines.specs.declared.fault.DecodeFault.TheVariants.{Lines}
 use Rattle.session_lines.proofs.Strings.{AtMost, ItemsOf, MembersOf, IsShortString, AreShortStrings, read-short}
 
 -- ---- the members of a line
@@ -109,17 +112,21 @@ abbrev HeaderOrWord : ℕ → Result Header Word → Type 0
 HeaderOrWord n (Err w) = ⊤
 HeaderOrWord n (Ok h) = Fits n h
 
-or_short : (n : ℕ) (w : Word) (o : Option Header) → HeaderOf n o → HeaderOrWord n (ok_or o w)
-or_short n w None h = tt
-or_short n w (Some x) h = h
+unless_short : (n : ℕ) (x : Header) (w : Option Word) → Fits n x → HeaderOrWord n (unless x w)
+unless_short n x None h = h
+unless_short n x (Some w) h = tt
 
-header_or_word_short : (n : ℕ) (o : Option Data) → MembersOf n o → HeaderOrWord n (header_or_word o)
-header_or_word_short n None h = tt
-header_or_word_short n (Some d) h = or_short n word.Header (header_of_value d) (header_of_value_short n d h)
+value_or_word_short : (n : ℕ) (m : Bool) (o : Option Header) → HeaderOf n o → HeaderOrWord n (value_or_word m o)
+value_or_word_short n m None h = tt
+value_or_word_short n m (Some x) h = unless_short n x (when (bars_return m x && list_any is_return x.base) word.Cr) h
 
-header_short : (line : List ℕ) → HeaderOrWord (length line) (header_of line)
+header_or_word_short : (n : ℕ) (m : Bool) (o : Option Data) → MembersOf n o → HeaderOrWord n (header_or_word m o)
+header_or_word_short n m None h = tt
+header_or_word_short n m (Some d) h = value_or_word_short n m (header_of_value d) (header_of_value_short n d h)
+
+header_short : (m : Bool) (line : List ℕ) → HeaderOrWord (length line) (header_of m line)
 unfolding header_of
-header_short line = header_or_word_short (length line) (value_of line) (value_short line)
+header_short m line = header_or_word_short (length line) m (value_of line) (value_short line)
 
 -- ---- the session
 
@@ -156,13 +163,21 @@ with_lines : (n m : ℕ) (h : Header) (r : Result (List SessionLine) DecodeFault
 with_lines n m h (Err e) le f = tt
 with_lines n m h (Ok ls) le f = record { version = f.0; base = omega (arith, f.1); replicas = f.2; ids = ids_are_replicas h.replicas f.2 }
 
-header_lines : (n m : ℕ) (r : Result Header Word) (ls : List (List ℕ)) → n ≤ m → HeaderOrWord n r → SessionOf m (then_from 1 r (λ h. with_header h (rest_of h.replicas [] ls)))
-header_lines n m (Err w) ls le f = tt
-header_lines n m (Ok h) ls le f = with_lines n m h (rest_of h.replicas [] ls) le f
+header_lines : (migrate : Bool) (n m : ℕ) (r : Result Header Word) (ls : List (List ℕ)) → n ≤ m → HeaderOrWord n r → SessionOf m (then_from 1 r (λ h. with_header h (rest_of migrate h [] ls)))
+header_lines migrate n m (Err w) ls le f = tt
+header_lines migrate n m (Ok h) ls le f = with_lines n m h (rest_of migrate h [] ls) le f
 
-from_lines : (n : ℕ) (ls : List (List ℕ)) → IsFirst n ls → SessionOf n (session_of ls)
-from_lines n [] h = tt
-from_lines n (l ∷ ls) h = header_lines (length l) n (header_of l) ls h (header_short l)
+from_lines : (m : Bool) (n : ℕ) (ls : List (List ℕ)) → IsFirst n ls → SessionOf n (session_of m ls)
+from_lines m n [] h = tt
+from_lines m n (l ∷ ls) h = header_lines m (length l) n (header_of m l) ls h (header_short m l)
 
-pub is_session : (input : List ℕ) (s : Session) → session_of (lines_of input) ≡ Ok s → IsSession (length input) s
-is_session input s e = subst (SessionOf (length input)) e (from_lines (length input) (lines_of input) (first_short input))
+pub is_session : (m : Bool) (input : List ℕ) (s : Session) → session_of m (lines_of input) ≡ Ok s → IsSession (length input) s
+is_session m input s e = subst (SessionOf (length input)) e (from_lines m (length input) (lines_of input) (first_short input))
+
+read_by : (m : Bool) (input : List ℕ) (s : Session) (b : Bool) (n : ℕ) → cond b (Err (Lines n)) (session_of m (lines_of input)) ≡ Ok s → IsSession (length input) s
+read_by m input s true n e = absurd (cc e)
+read_by m input s false n e = is_session m input s e
+
+pub session_read : (m : Bool) (input : List ℕ) (s : Session) → session_of_text m input ≡ Ok s → IsSession (length input) s
+unfolding session_of_text
+session_read m input s e = read_by m input s (nat_lt lines_limit (length (lines_of input))) (length (lines_of input)) e

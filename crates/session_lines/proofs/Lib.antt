@@ -3,6 +3,7 @@ pub mod Cut
 pub mod Strings
 pub mod Headers
 pub mod Faults
+pub mod CleanTexts
 pub mod LineNames
 pub mod Versions
 pub mod Rows

@@ -1,5 +1,5 @@
 -- The forms of a line after the header.
-use Rattle.std.specs.Prelude.{ℕ, List, [], ◌∷◌, codes, Option, None, option_map, option_and_then, if◌then◌else◌}
+use Rattle.std.specs.Prelude.{ℕ, List, [], ◌∷◌, codes, ◌&&◌, ◌==◌, Option, None, option_map, option_and_then, if◌then◌else◌}
 use Rattle.serde_json.specs.Data.{Data}
 use Rattle.serde_json.specs.Find.{as_str}
 use Rattle.lamport_clock.specs.Versions.{Entries}
@@ -10,7 +10,7 @@ use Rattle.session_lines.specs.Json.{whole_number, members_of, is_text}
 use Rattle.op_model.specs.declared.anchor.Bias.{Bias}
 use Rattle.session_lines.specs.Parts.{id_of_value, stamp_of_value, version_of_value, pieces_of_value, counts_of_value, numbers_of_value, bias_of_value}
 use Rattle.session_lines.specs.declared.session.SessionLine.{SessionLine}
-use Rattle.session_lines.specs.declared.session.SessionLine.TheVariants.{Edit, Undo, Op, Uop, Give, Text, Anchor, Where, Mark, Since, Find, Point, Offset}
+use Rattle.session_lines.specs.declared.session.SessionLine.TheVariants.{Edit, Undo, Op, Uop, Give, Text, Anchor, Where, Mark, Since, Find, Point, Offset, Reopen}
 
 -- ---- the members after the word
 
@@ -114,6 +114,11 @@ abbrev pub offset_from : List Data → Option SessionLine
 offset_from (r ∷ k ∷ c ∷ []) = offset_with (id_of_value r) (whole_number k) (whole_number c)
 offset_from _ = None
 
+-- r
+abbrev pub reopen_from : List Data → Option SessionLine
+reopen_from (r ∷ []) = option_map Reopen (id_of_value r)
+reopen_from _ = None
+
 -- ---- a line, by its word
 
 -- lines that keep or ask for something under a name, and queries
@@ -127,19 +132,23 @@ asking_form w ds =
     if is_text (codes "point") w then point_from ds else
     if is_text (codes "offset") w then offset_from ds else None
 
-abbrev pub form_of : Data → List Data → Option SessionLine
-form_of w ds =
+-- the forms that version 2 adds
+abbrev pub later_form : ℕ → Data → List Data → Option SessionLine
+later_form v w ds = if (v == 2) && is_text (codes "reopen") w then reopen_from ds else asking_form w ds
+
+abbrev pub form_of : ℕ → Data → List Data → Option SessionLine
+form_of v w ds =
     if is_text (codes "edit") w then edit_from ds else
     if is_text (codes "undo") w then undo_from ds else
     if is_text (codes "op") w then op_from ds else
     if is_text (codes "uop") w then uop_from ds else
     if is_text (codes "give") w then give_from ds else
-    if is_text (codes "text") w then text_from ds else asking_form w ds
+    if is_text (codes "text") w then text_from ds else later_form v w ds
 
-abbrev pub line_from : List Data → Option SessionLine
-line_from [] = None
-line_from (w ∷ ds) = form_of w ds
+abbrev pub line_from : ℕ → List Data → Option SessionLine
+line_from v [] = None
+line_from v (w ∷ ds) = form_of v w ds
 
--- the line that a value is, where it has a form of one
-unfoldable pub line_of_value : Data → Option SessionLine
-line_of_value d = option_and_then line_from (members_of d)
+-- the line of a session of a version that a value is, where it has a form of one
+unfoldable pub line_of_value : ℕ → Data → Option SessionLine
+line_of_value v d = option_and_then (line_from v) (members_of d)

@@ -3,7 +3,7 @@ use Rattle.std.specs.Prelude.{[], ◌∷◌, Bool, false, true}
 use Rattle.session_lines.specs.declared.kept.Form.{Form}
 use Rattle.session_lines.specs.declared.kept.Form.TheVariants as form
 use Rattle.session_lines.specs.declared.session.SessionLine.{SessionLine}
-use Rattle.session_lines.specs.declared.session.SessionLine.TheVariants.{Edit, Undo, Give, Text, Anchor, Where, Mark, Since, Find, Point, Offset}
+use Rattle.session_lines.specs.declared.session.SessionLine.TheVariants.{Edit, Undo, Give, Text, Anchor, Where, Mark, Since, Find, Point, Offset, Reopen}
 
 -- the line of a form
 abbrev pub line_of : Form → SessionLine
@@ -18,6 +18,7 @@ line_of (form.Since r n) = Since r n.bytes
 line_of (form.Find r n) = Find r n.bytes
 line_of (form.Point r o) = Point r o
 line_of (form.Offset r k c) = Offset r k c
+line_of (form.Reopen r) = Reopen r
 line_of (form.Whole l) = l.value
 
 -- it has no block of its own
@@ -33,4 +34,5 @@ is_short (form.Since r n) = true
 is_short (form.Find r n) = true
 is_short (form.Point r o) = true
 is_short (form.Offset r k c) = true
+is_short (form.Reopen r) = true
 is_short (form.Whole l) = false

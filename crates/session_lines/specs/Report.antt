@@ -40,7 +40,7 @@ use Rattle.session_lines.specs.declared.report.QueryAnswer.TheVariants as query
 use Rattle.session_lines.specs.declared.report.TextHead.{TextHead}
 use Rattle.session_lines.specs.declared.report.TextHead.TheVariants as head
 use Rattle.session_lines.specs.declared.report.Report.{Report}
-use Rattle.session_lines.specs.declared.report.Report.TheVariants.{Made, EditRefused, UndoRefused, Unnamed, Settled, Give, Text, Anchor, Where, Mark, Since, Query, Replica, Refused, Checked}
+use Rattle.session_lines.specs.declared.report.Report.TheVariants.{Made, EditRefused, UndoRefused, Unnamed, Settled, Give, Text, Anchor, Where, Mark, Since, Reopen, Query, Replica, Refused, Checked}
 
 -- ---- lines
 
@@ -109,6 +109,9 @@ unnamed_line n named = decimal n ++ (codes ": nothing " ++ (decimal named ++ cod
 
 unfoldable pub settled_line : ℕ → ℕ → List ℕ
 settled_line r count = codes "settled " ++ (decimal r ++ (codes ": " ++ (decimal count ++ codes "\n")))
+
+unfoldable pub reopen_line : ℕ → ℕ → List ℕ
+reopen_line r count = codes "reopen " ++ (decimal r ++ (codes ": " ++ (decimal count ++ codes "\n")))
 
 abbrev pub give_words : GiveAnswer → List ℕ
 give_words (given.Applied count) = codes "applied " ++ decimal count
@@ -260,6 +263,7 @@ line_text (Anchor name answer) = anchor_line name answer
 line_text (Where name r answer) = where_line name r answer
 line_text (Mark name) = mark_line name
 line_text (Since name r answer) = since_line name r answer
+line_text (Reopen r count) = reopen_line r count
 line_text (Query q n answer) = query_line q n answer
 line_text (Replica r bytes rows applied waiting refused) = replica_line r bytes rows applied waiting refused
 line_text (Refused r t e) = refused_op_line r t e

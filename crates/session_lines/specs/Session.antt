@@ -1,11 +1,12 @@
 -- Which session a text is, or its first bad line and the first word that applies to it.
-use Rattle.std.specs.Prelude.{◌≡◌, ◌⊎◌, ◌==◌, ℕ, ◌+◌, ◌≤◌, List, [], ◌∷◌, ◌++◌, length, not, ◌&&◌, nat_lt, nat_le, Bool, true, false, Option, Some, None, Result, Ok, Err, ok_or, if◌then◌else◌}
+use Rattle.std.specs.Prelude.{◌≡◌, ◌⊎◌, ◌==◌, ℕ, ◌+◌, ◌≤◌, List, [], ◌∷◌, ◌++◌, length, not, ◌&&◌, nat_lt, nat_le, Bool, true, false, Option, Some, None, Result, Ok, Err, if◌then◌else◌}
 use Rattle.std.specs.List.{All, count_by, list_all, list_any}
 use Rattle.std.specs.Str.{bytes_eq}
 use Rattle.op_model.specs.Domains.{IsReplica}
 use Rattle.op_model.specs.declared.endings.Endings.{Endings}
 use Rattle.op_model.specs.declared.endings.Endings.TheVariants.{AsIs, Lf}
 use Rattle.op_model.specs.Choice.{first_of, when}
+use Rattle.op_model.specs.Rules.{has_return, is_return}
 use Rattle.serde_json.specs.Data.{Data}
 use Rattle.session_lines.specs.Json.{value_of}
 use Rattle.session_lines.specs.Cut.{lines_of}
@@ -14,22 +15,37 @@ use Rattle.session_lines.specs.Parts.{is_among}
 use Rattle.session_lines.specs.Heading.{header_of_value, are_replicas}
 use Rattle.session_lines.specs.declared.header.Header.{Header}
 use Rattle.session_lines.specs.declared.session.SessionLine.{SessionLine}
-use Rattle.session_lines.specs.declared.session.SessionLine.TheVariants.{Edit, Undo, Op, Uop, Give, Text, Anchor, Where, Mark, Since, Find, Point, Offset}
+use Rattle.session_lines.specs.declared.session.SessionLine.TheVariants.{Edit, Undo, Op, Uop, Give, Text, Anchor, Where, Mark, Since, Find, Point, Offset, Reopen}
 use Rattle.session_lines.specs.declared.session.Session.{Session}
 use Rattle.session_lines.specs.declared.fault.Word.{Word}
 use Rattle.session_lines.specs.declared.fault.Word.TheVariants as word
 use Rattle.session_lines.specs.declared.fault.DecodeFault.{DecodeFault}
 use Rattle.session_lines.specs.declared.fault.DecodeFault.TheVariants.{Lines, Bad}
 
--- ---- one line
+-- ---- the header
+
+-- x, unless there is something against it
+abbrev pub unless : {A E : Type 0} → A → Option E → Result A E
+unless x None = Ok x
+unless x (Some e) = Err e
+
+-- a session with this header may bring no text with a CR into its buffers: it is read to be migrated from version 1, whose buffers
+-- keep a CR, to version 2, whose buffers do not
+abbrev pub bars_return : Bool → Header → Bool
+bars_return migrate h = migrate && (h.version == 1)
+
+-- the header that a value is
+abbrev pub value_or_word : Bool → Option Header → Result Header Word
+value_or_word migrate None = Err word.Header
+value_or_word migrate (Some h) = unless h (when (bars_return migrate h && list_any is_return h.base) word.Cr)
 
 -- the header that a first line is
-abbrev pub header_or_word : Option Data → Result Header Word
-header_or_word None = Err word.Json
-header_or_word (Some d) = ok_or (header_of_value d) word.Header
+abbrev pub header_or_word : Bool → Option Data → Result Header Word
+header_or_word migrate None = Err word.Json
+header_or_word migrate (Some d) = value_or_word migrate (header_of_value d)
 
-unfoldable pub header_of : List ℕ → Result Header Word
-header_of line = header_or_word (value_of line)
+unfoldable pub header_of : Bool → List ℕ → Result Header Word
+header_of migrate line = header_or_word migrate (value_of line)
 
 -- ---- operation lines, which are numbered from 1 in their order, whatever comes of them
 
@@ -47,6 +63,7 @@ is_operation (Since r n) = false
 is_operation (Find r t) = false
 is_operation (Point r o) = false
 is_operation (Offset r k c) = false
+is_operation (Reopen r) = false
 
 -- how many of the lines are operation lines
 abbrev pub operation_count : List SessionLine → ℕ
@@ -68,6 +85,7 @@ is_query (Since r n) = false
 is_query (Find r t) = true
 is_query (Point r o) = true
 is_query (Offset r k c) = true
+is_query (Reopen r) = false
 
 -- how many of the lines are queries
 abbrev pub query_count : List SessionLine → ℕ
@@ -90,6 +108,7 @@ is_known ids (Since r n) = is_among ids r
 is_known ids (Find r t) = is_among ids r
 is_known ids (Point r o) = is_among ids r
 is_known ids (Offset r k c) = is_among ids r
+is_known ids (Reopen r) = is_among ids r
 
 -- n is the number of one of the `count` operation lines before
 abbrev pub is_number_of : ℕ → ℕ → Bool
@@ -110,6 +129,7 @@ is_numbered count (Since r n) = true
 is_numbered count (Find r t) = true
 is_numbered count (Point r o) = true
 is_numbered count (Offset r k c) = true
+is_numbered count (Reopen r) = true
 
 -- the name under which the line keeps an anchor, if it does
 abbrev pub anchor_name : SessionLine → Option (List ℕ)
@@ -126,6 +146,7 @@ anchor_name (Since r n) = None
 anchor_name (Find r t) = None
 anchor_name (Point r o) = None
 anchor_name (Offset r k c) = None
+anchor_name (Reopen r) = None
 
 -- the name under which the line keeps a version, if it does
 abbrev pub mark_name : SessionLine → Option (List ℕ)
@@ -142,6 +163,7 @@ mark_name (Since r n) = None
 mark_name (Find r t) = None
 mark_name (Point r o) = None
 mark_name (Offset r k c) = None
+mark_name (Reopen r) = None
 
 -- the name is this one, where there is one
 abbrev pub is_name : List ℕ → Option (List ℕ) → Bool
@@ -171,31 +193,45 @@ is_named before (Since r n) = has_mark before n
 is_named before (Find r t) = true
 is_named before (Point r o) = true
 is_named before (Offset r k c) = true
+is_named before (Reopen r) = true
+
+-- a text that the line brings into buffers has a CR
+abbrev pub brings_return : SessionLine → Bool
+brings_return (Edit r ps) = list_any has_return ps
+brings_return (Undo r ns) = false
+brings_return (Op e) = list_any has_return e.pieces
+brings_return (Uop u) = false
+brings_return (Give r n) = false
+brings_return (Text r) = false
+brings_return (Anchor r n o b) = false
+brings_return (Where r n) = false
+brings_return (Mark r n) = false
+brings_return (Since r n) = false
+brings_return (Find r t) = false
+brings_return (Point r o) = false
+brings_return (Offset r k c) = false
+brings_return (Reopen r) = false
 
 -- what is wrong with a line that has the form of one, after the lines before
-abbrev pub word_of : List ℕ → List SessionLine → SessionLine → Option Word
-word_of ids before line = first_of (
-    when (not (is_known ids line)) word.Replica
+abbrev pub word_of : Bool → Header → List SessionLine → SessionLine → Option Word
+word_of migrate h before line = first_of (
+    when (not (is_known h.replicas line)) word.Replica
     ∷ when (not (is_numbered (operation_count before) line)) word.Number
     ∷ when (not (is_named before line)) word.Name
+    ∷ when (bars_return migrate h && brings_return line) word.Cr
     ∷ [])
 
--- x, unless there is something against it
-abbrev pub unless : {A E : Type 0} → A → Option E → Result A E
-unless x None = Ok x
-unless x (Some e) = Err e
+abbrev pub form_or_word : Bool → Header → List SessionLine → Option SessionLine → Result SessionLine Word
+form_or_word migrate h before None = Err word.Shape
+form_or_word migrate h before (Some line) = unless line (word_of migrate h before line)
 
-abbrev pub form_or_word : List ℕ → List SessionLine → Option SessionLine → Result SessionLine Word
-form_or_word ids before None = Err word.Shape
-form_or_word ids before (Some line) = unless line (word_of ids before line)
+abbrev pub line_or_word : Bool → Header → List SessionLine → Option Data → Result SessionLine Word
+line_or_word migrate h before None = Err word.Json
+line_or_word migrate h before (Some d) = form_or_word migrate h before (line_of_value h.version d)
 
-abbrev pub line_or_word : List ℕ → List SessionLine → Option Data → Result SessionLine Word
-line_or_word ids before None = Err word.Json
-line_or_word ids before (Some d) = form_or_word ids before (line_of_value d)
-
--- the line of a session with these replicas that a later line is, after the lines before
-unfoldable pub line_of : List ℕ → List SessionLine → List ℕ → Result SessionLine Word
-line_of ids before line = line_or_word ids before (value_of line)
+-- the line of a session with this header that a later line is, after the lines before
+unfoldable pub line_of : Bool → Header → List SessionLine → List ℕ → Result SessionLine Word
+line_of migrate h before line = line_or_word migrate h before (value_of line)
 
 -- ---- all lines
 
@@ -205,18 +241,18 @@ then_from n (Err w) next = Err (Bad n w)
 then_from n (Ok x) next = next x
 
 -- the lines after the header, those `before` being read
-abbrev pub rest_of : List ℕ → List SessionLine → List (List ℕ) → Result (List SessionLine) DecodeFault
-rest_of ids before [] = Ok before
-rest_of ids before (l ∷ ls) =
-    then_from (2 + length before) (line_of ids before l) (λ x. rest_of ids (before ++ x ∷ []) ls)
+abbrev pub rest_of : Bool → Header → List SessionLine → List (List ℕ) → Result (List SessionLine) DecodeFault
+rest_of migrate h before [] = Ok before
+rest_of migrate h before (l ∷ ls) =
+    then_from (2 + length before) (line_of migrate h before l) (λ x. rest_of migrate h (before ++ x ∷ []) ls)
 
 abbrev pub with_header : Header → Result (List SessionLine) DecodeFault → Result Session DecodeFault
 with_header h (Err e) = Err e
 with_header h (Ok ls) = Ok (record { version = h.version; base = h.base; replicas = h.replicas; lines = ls })
 
-abbrev pub session_of : List (List ℕ) → Result Session DecodeFault
-session_of [] = Err (Bad 1 word.Header)
-session_of (l ∷ ls) = then_from 1 (header_of l) (λ h. with_header h (rest_of h.replicas [] ls))
+abbrev pub session_of : Bool → List (List ℕ) → Result Session DecodeFault
+session_of migrate [] = Err (Bad 1 word.Header)
+session_of migrate (l ∷ ls) = then_from 1 (header_of migrate l) (λ h. with_header h (rest_of migrate h [] ls))
 
 -- what the buffers of a session do with line endings, by its version
 abbrev pub endings_of : ℕ → Endings
@@ -226,12 +262,12 @@ endings_of v = if v == 2 then Lf else AsIs
 abbrev pub lines_limit : ℕ
 lines_limit = 1048576
 
--- the session of a text, or why it has none: lines are counted before any is read
-unfoldable pub session_of_text : List ℕ → Result Session DecodeFault
-session_of_text input =
+-- the session of a text, which may be read to be migrated, or why it has none: lines are counted before any is read
+unfoldable pub session_of_text : Bool → List ℕ → Result Session DecodeFault
+session_of_text migrate input =
     if nat_lt lines_limit (length (lines_of input))
     then Err (Lines (length (lines_of input)))
-    else session_of (lines_of input)
+    else session_of migrate (lines_of input)
 
 -- ---- what every session is like that was read from that many bytes
 

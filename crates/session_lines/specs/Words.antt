@@ -1,7 +1,7 @@
 -- What is wrong with a bad line, and the line that says so.
 use Rattle.std.specs.Prelude.{ℕ, List, ◌++◌, codes, decimal}
 use Rattle.session_lines.specs.declared.fault.Word.{Word}
-use Rattle.session_lines.specs.declared.fault.Word.TheVariants.{Json, Header, Shape, Replica, Number, Name}
+use Rattle.session_lines.specs.declared.fault.Word.TheVariants.{Json, Header, Shape, Replica, Number, Name, Cr}
 
 abbrev pub word_text : Word → List ℕ
 word_text Json = codes "json"
@@ -10,6 +10,7 @@ word_text Shape = codes "shape"
 word_text Replica = codes "replica"
 word_text Number = codes "number"
 word_text Name = codes "name"
+word_text Cr = codes "cr"
 
 -- the line for an input whose first bad line is number n
 unfoldable pub bad_line : ℕ → Word → List ℕ

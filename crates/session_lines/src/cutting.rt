@@ -19,7 +19,7 @@ fn line_len(text: &[u8]) -> usize
     }
 }
 
-/// The first line, and what comes after it.
+/// The first line of a text, and what comes after its line feed. Linear in the line; does not allocate.
 pub fn first_line(text: &[u8]) -> (&[u8], &[u8])
     requires { 0 < length text.now }
     ensures cut { lines_of text.now ≡ result.0.now ∷ lines_of result.1.now }

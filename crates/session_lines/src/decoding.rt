@@ -12,6 +12,7 @@ use crate::forms::line_of_value;
 use crate::header::{Header, header_of_value};
 use crate::line_list::SessionLines;
 use crate::line_value::{LineFault, value_of};
+use crate::returns::{bars_return, brings_return, is_barred_header};
 use crate::session::{Session, SessionLine};
 use std::alloc::Global;
 
@@ -19,15 +20,18 @@ use std::alloc::Global;
 const LINES: usize = 1_048_576;
 
 #[tactic(auto, unfolding(crate::specs::Session::header_of))]
-fn header_of(alloc: Global, line: &[u8]) -> Result<Header, LineFault>
-    ensures ok { IfOk result (λ h. header_of line.now ≡ Ok h) }
-    ensures bad { (w : Word) → result ≡ Err (LineFault.Bad w) → header_of line.now ≡ Err w }
+fn header_of(alloc: Global, migrate: bool, line: &[u8]) -> Result<Header, LineFault>
+    ensures ok { IfOk result (λ h. header_of migrate line.now ≡ Ok h) }
+    ensures bad { (w : Word) → result ≡ Err (LineFault.Bad w) → header_of migrate line.now ≡ Err w }
 {
     let value = value_of(alloc, line)?;
-    match header_of_value(alloc, &value)? {
-        Some(header) => Ok(header),
-        None => Err(LineFault::Bad(Word::Header)),
+    let Some(header) = header_of_value(alloc, &value)? else {
+        return Err(LineFault::Bad(Word::Header));
+    };
+    if is_barred_header(migrate, &header) {
+        return Err(LineFault::Bad(Word::Cr));
     }
+    Ok(header)
 }
 
 // Whether the replica that acts in the line, if one does, is in the header.
@@ -46,7 +50,8 @@ fn is_known(replicas: &[u16], line: &SessionLine) -> bool
         | SessionLine::Since { replica, .. }
         | SessionLine::Find { replica, .. }
         | SessionLine::Point { replica, .. }
-        | SessionLine::Offset { replica, .. } => replicas.contains(replica),
+        | SessionLine::Offset { replica, .. }
+        | SessionLine::Reopen { replica } => replicas.contains(replica),
     }
 }
 
@@ -74,10 +79,15 @@ fn is_numbered(operations: u64, line: &SessionLine) -> bool
     }
 }
 
-fn word_of(replicas: &[u16], before: &EarlierLines, line: &SessionLine) -> Option<Word>
-    ensures { result ≡ word_of replicas.now before.now line.now }
+fn word_of(
+    migrate: bool,
+    header: &Header,
+    before: &EarlierLines,
+    line: &SessionLine,
+) -> Option<Word>
+    ensures { result ≡ word_of migrate header.now before.now line.now }
 {
-    if !is_known(replicas, line) {
+    if !is_known(header.replicas.as_slice(), line) {
         return Some(Word::Replica);
     }
     if !is_numbered(before.operation_count(), line) {
@@ -86,40 +96,50 @@ fn word_of(replicas: &[u16], before: &EarlierLines, line: &SessionLine) -> Optio
     if !before.is_named(line) {
         return Some(Word::Name);
     }
+    if bars_return(migrate, header) && brings_return(line) {
+        return Some(Word::Cr);
+    }
     None
 }
 
 #[tactic(auto, unfolding(crate::specs::Session::line_of))]
 fn line_of(
     alloc: Global,
-    replicas: &[u16],
+    migrate: bool,
+    header: &Header,
     before: &EarlierLines,
     line: &[u8],
 ) -> Result<SessionLine, LineFault>
-    ensures ok { IfOk result (λ l. line_of replicas.now before.now line.now ≡ Ok l) }
+    ensures ok { IfOk result (λ l. line_of migrate header.now before.now line.now ≡ Ok l) }
     ensures bad { (w : Word) → result ≡ Err (LineFault.Bad w)
-        → line_of replicas.now before.now line.now ≡ Err w }
+        → line_of migrate header.now before.now line.now ≡ Err w }
 {
     let value = value_of(alloc, line)?;
-    let Some(line) = line_of_value(alloc, &value)? else {
+    let Some(line) = line_of_value(alloc, header.version, &value)? else {
         return Err(LineFault::Bad(Word::Shape));
     };
-    match word_of(replicas, before, &line) {
+    match word_of(migrate, header, before, &line) {
         Some(word) => Err(LineFault::Bad(word)),
         None => Ok(line),
     }
 }
 
-fn rest_of(alloc: Global, replicas: &[u16], text: &[u8]) -> Result<SessionLines, DecodeFault>
-    ensures ok { IfOk result (λ ls. rest_of replicas.now [] (lines_of text.now) ≡ Ok ls) }
-    ensures fault { IfErr result (λ e. (rest_of replicas.now [] (lines_of text.now) ≡ Err e)
+fn rest_of(
+    alloc: Global,
+    migrate: bool,
+    header: &Header,
+    text: &[u8],
+) -> Result<SessionLines, DecodeFault>
+    ensures ok { IfOk result (λ ls. rest_of migrate header.now [] (lines_of text.now) ≡ Ok ls) }
+    ensures fault { IfErr result (λ e.
+        (rest_of migrate header.now [] (lines_of text.now) ≡ Err e)
         ⊎ (e ≡ DecodeFault.OutOfMemory)) }
 {
     let mut lines = EarlierLines::with_capacity(alloc, line_count(text))?;
     let mut rest = text;
     while !rest.is_empty() {
         let (line, after) = first_line(rest);
-        match line_of(alloc, replicas, &lines, line) {
+        match line_of(alloc, migrate, header, &lines, line) {
             Ok(line) => lines = lines.with(alloc, line)?,
             Err(LineFault::Bad(word)) => {
                 return Err(DecodeFault::Bad {
@@ -135,22 +155,21 @@ fn rest_of(alloc: Global, replicas: &[u16], text: &[u8]) -> Result<SessionLines,
 }
 
 // The session that the lines of the text are, however many there are.
-fn session_of(alloc: Global, input: &[u8]) -> Result<Session, DecodeFault>
+fn session_of(alloc: Global, migrate: bool, input: &[u8]) -> Result<Session, DecodeFault>
     requires { 0 < length input.now }
-    ensures ok { IfOk result (λ s. session_of (lines_of input.now) ≡ Ok s) }
-    ensures fault { IfErr result (λ e. (session_of (lines_of input.now) ≡ Err e)
+    ensures ok { IfOk result (λ s. session_of migrate (lines_of input.now) ≡ Ok s) }
+    ensures fault { IfErr result (λ e. (session_of migrate (lines_of input.now) ≡ Err e)
         ⊎ (e ≡ DecodeFault.OutOfMemory)) }
 {
     let (line, after) = first_line(input);
-    match header_of(alloc, line) {
-        Ok(
-            Header {
+    match header_of(alloc, migrate, line) {
+        Ok(header) => {
+            let lines = rest_of(alloc, migrate, &header, after)?;
+            let Header {
                 version,
                 base,
                 replicas,
-            },
-        ) => {
-            let lines = rest_of(alloc, replicas.as_slice(), after)?;
+            } = header;
             Ok(Session {
                 version,
                 base,
@@ -164,20 +183,21 @@ fn session_of(alloc: Global, input: &[u8]) -> Result<Session, DecodeFault>
 }
 
 /// The session that the bytes are. Linear in their number; the session takes as much memory as the texts in it, and each
-/// line is read for itself.
+/// line is read for itself. Where `migrate` is true the session is read to be written as one of version 2: if it has version 1, no
+/// text that it brings into buffers may have a CR.
 ///
 /// # Errors
 ///
 /// `Lines` exactly where there are more than 1,048,576 lines, with their number. Else `Bad` for the first bad line and the
-/// first word that applies to it; an input without a line is bad at line 1 with the word `header`. `OutOfMemory` only where
-/// there is a line, and not too many.
+/// first word that applies to it, `Cr` only where `migrate` is true; an input without a line is bad at line 1 with the word
+/// `header`. `OutOfMemory` only where there is a line, and not too many.
 #[tactic(auto, unfolding(crate::specs::Session::session_of_text), using(crate::proofs::Headers::is_session, crate::proofs::Faults::session_of_nothing))]
-pub fn decode(alloc: Global, input: &[u8]) -> Result<Session, DecodeFault>
-    ensures ok { IfOk result (λ s. session_of_text input.now ≡ Ok s) }
+pub fn decode(alloc: Global, input: &[u8], migrate: bool) -> Result<Session, DecodeFault>
+    ensures ok { IfOk result (λ s. session_of_text migrate input.now ≡ Ok s) }
     ensures session { IfOk result (λ s. IsSession (length input.now) s) }
     ensures lines { lines_limit < length (lines_of input.now)
         → result ≡ Err (DecodeFault.Lines (length (lines_of input.now))) }
-    ensures fault { IfErr result (λ e. (session_of_text input.now ≡ Err e)
+    ensures fault { IfErr result (λ e. (session_of_text migrate input.now ≡ Err e)
         ⊎ ((0 < length input.now) × (length (lines_of input.now) ≤ lines_limit)
         × (e ≡ DecodeFault.OutOfMemory))) }
 {
@@ -191,5 +211,5 @@ pub fn decode(alloc: Global, input: &[u8]) -> Result<Session, DecodeFault>
     if count > LINES {
         return Err(DecodeFault::Lines(count as u64));
     }
-    session_of(alloc, input)
+    session_of(alloc, migrate, input)
 }

@@ -23,6 +23,9 @@ pub enum Word {
     Number,
     /// No line before it keeps an anchor, or a version, under the name that it asks for.
     Name,
+    /// The session is read to be migrated, its version is 1, and a text that the line brings into buffers has a CR: the base,
+    /// or a text of an edit.
+    Cr,
 }
 
 impl fmt::Display for Word {
@@ -36,6 +39,7 @@ impl fmt::Display for Word {
             Word::Replica => write!(f, "replica"),
             Word::Number => write!(f, "number"),
             Word::Name => write!(f, "name"),
+            Word::Cr => write!(f, "cr"),
         }
     }
 }

@@ -2,7 +2,7 @@
 ghost use Rattle.std.specs.Prelude.{◌≡◌, map, IfOk, None, Some};
 ghost use Rattle.serde_json.specs.View.{view};
 ghost use Rattle.session_lines.specs.Json.{members_of};
-ghost use Rattle.session_lines.specs.Forms.{edit_from, undo_from, op_from, uop_from, give_from, text_from, anchor_from, name_from, where_from, mark_from, since_from, find_from, point_from, offset_from, asking_form, line_from, line_of_value};
+ghost use Rattle.session_lines.specs.Forms.{edit_from, undo_from, op_from, uop_from, give_from, text_from, anchor_from, name_from, where_from, mark_from, since_from, find_from, point_from, offset_from, reopen_from, asking_form, later_form, line_from, line_of_value};
 
 use crate::OutOfMemory;
 use crate::line_value::{is_text, members_of};
@@ -222,6 +222,18 @@ fn offset_from(members: &[Value]) -> Option<SessionLine>
     }
 }
 
+fn reopen_from(members: &[Value]) -> Option<SessionLine>
+    ensures { result ≡ reopen_from (map view members.now) }
+{
+    let [replica] = members else {
+        return None;
+    };
+    match id_of_value(replica) {
+        Some(replica) => Some(SessionLine::Reopen { replica }),
+        None => None,
+    }
+}
+
 // The line of the word, where it keeps or asks for something under a name, or is a query.
 fn asking_form(
     alloc: Global,
@@ -254,8 +266,27 @@ fn asking_form(
     Ok(None)
 }
 
-fn line_from(alloc: Global, members: &[Value]) -> Result<Option<SessionLine>, OutOfMemory>
-    ensures { IfOk result (λ l. l ≡ line_from (map view members.now)) }
+// The line of the word, where it is one that version 2 adds, or one that keeps or asks for something or is a query.
+fn later_form(
+    alloc: Global,
+    version: u32,
+    word: &Value,
+    members: &[Value],
+) -> Result<Option<SessionLine>, OutOfMemory>
+    ensures { IfOk result (λ l. l ≡ later_form version (view word.now) (map view members.now)) }
+{
+    if version == 2 && is_text(word, "reopen") {
+        return Ok(reopen_from(members));
+    }
+    asking_form(alloc, word, members)
+}
+
+fn line_from(
+    alloc: Global,
+    version: u32,
+    members: &[Value],
+) -> Result<Option<SessionLine>, OutOfMemory>
+    ensures { IfOk result (λ l. l ≡ line_from version (map view members.now)) }
 {
     let [word, members @ ..] = members else {
         return Ok(None);
@@ -278,16 +309,20 @@ fn line_from(alloc: Global, members: &[Value]) -> Result<Option<SessionLine>, Ou
     if is_text(word, "text") {
         return Ok(text_from(members));
     }
-    asking_form(alloc, word, members)
+    later_form(alloc, version, word, members)
 }
 
-/// The line that a value is, where it has the form of one.
+/// The line of a session of the version that a value is, where it has the form of one.
 #[tactic(auto, unfolding(crate::specs::Forms::line_of_value))]
-pub fn line_of_value(alloc: Global, value: &Value) -> Result<Option<SessionLine>, OutOfMemory>
-    ensures { IfOk result (λ l. l ≡ line_of_value (view value.now)) }
+pub fn line_of_value(
+    alloc: Global,
+    version: u32,
+    value: &Value,
+) -> Result<Option<SessionLine>, OutOfMemory>
+    ensures { IfOk result (λ l. l ≡ line_of_value version (view value.now)) }
 {
     match members_of(value) {
-        Some(members) => line_from(alloc, members),
+        Some(members) => line_from(alloc, version, members),
         None => Ok(None),
     }
 }

@@ -47,6 +47,7 @@ pub enum Form {
     Find(u16, ArrayString<16>),
     Point(u16, u64),
     Offset(u16, u64, u64),
+    Reopen(u16),
     /// Any line, as it is.
     Whole(Box<SessionLine>),
 }
@@ -103,6 +104,7 @@ fn short_form(line: &SessionLine) -> Option<Form>
             row,
             column,
         } => Some(Form::Offset(*replica, *row, *column)),
+        SessionLine::Reopen { replica } => Some(Form::Reopen(*replica)),
     }
 }
 
@@ -192,6 +194,7 @@ fn short_line(alloc: Global, form: &Form) -> Result<SessionLine, OutOfMemory>
             row,
             column,
         }),
+        Form::Reopen(replica) => Ok(SessionLine::Reopen { replica }),
         Form::Whole(_) => unreachable!(),
     }
 }

@@ -13,9 +13,11 @@ mod line_list;
 mod line_value;
 mod parts;
 mod report;
+mod returns;
 mod session;
 mod text;
 
+pub use cutting::first_line;
 pub use decoding::decode;
 pub use fault::{DecodeFault, Word};
 pub use lamport_clock::OutOfMemory;

@@ -203,6 +203,11 @@ pub enum Report {
         replica: u16,
         answer: SinceAnswer,
     },
+    /// `reopen R: C`: replica R was opened with the C operations that it had applied, the base not counted.
+    Reopen {
+        replica: u16,
+        count: u64,
+    },
     /// `WORD Q at N: ANSWER`: query Q, which has the word, is answered on what N operations come to, the base not counted.
     Query {
         number: u64,

@@ -74,6 +74,11 @@ pub enum SessionLine {
         row: u64,
         column: u64,
     },
+    /// `["reopen",r]`, in version 2 alone: the buffer of replica r is opened with what it has applied, and what waits or was
+    /// refused there is gone.
+    Reopen {
+        replica: u16,
+    },
 }
 
 impl SessionLine {

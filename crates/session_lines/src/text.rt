@@ -2,7 +2,7 @@
 ghost use Rattle.std.specs.Prelude.{◌≡◌, ◌++◌, false, length, string_bytes, take, true, OnOk, OnErr, IfOk};
 ghost use Rattle.std.specs.Iterator.{IsFinite};
 ghost use Rattle.json.specs.Print.{escape, quoted};
-ghost use Rattle.session_lines.specs.Report.{made_line, settled_line, give_words, give_line, text_line, place_fault_words, anchor_words, anchor_line, where_words, where_line, mark_line, edit_words, edits_words, since_fault_words, since_words, since_line, starts_words, find_words, place_words, clips_words, point_words, offset_words, query_word, query_words, query_line, counts_words, waits_words, replica_line, head_words, OnText, edit_fault_words, op_fault_words, undo_fault_words, refused_edit_line, refused_undo_line, unnamed_line, refused_op_line, checked_line, line_text, has_string, is_end};
+ghost use Rattle.session_lines.specs.Report.{made_line, settled_line, reopen_line, give_words, give_line, text_line, place_fault_words, anchor_words, anchor_line, where_words, where_line, mark_line, edit_words, edits_words, since_fault_words, since_words, since_line, starts_words, find_words, place_words, clips_words, point_words, offset_words, query_word, query_words, query_line, counts_words, waits_words, replica_line, head_words, OnText, edit_fault_words, op_fault_words, undo_fault_words, refused_edit_line, refused_undo_line, unnamed_line, refused_op_line, checked_line, line_text, has_string, is_end};
 
 use crate::OutOfMemory;
 use crate::report::{
@@ -207,6 +207,13 @@ fn push_settled(out: &mut String, r: u16, count: u64) -> Result<(), OutOfMemory>
     ensures { OnOk result (string_bytes out.new ≡ string_bytes out.old ++ settled_line r count) }
 {
     write!(out, "settled {r}: {count}\n")
+}
+
+#[tactic(auto, unfolding(crate::specs::Report::reopen_line))]
+fn push_reopen(out: &mut String, r: u16, count: u64) -> Result<(), OutOfMemory>
+    ensures { OnOk result (string_bytes out.new ≡ string_bytes out.old ++ reopen_line r count) }
+{
+    write!(out, "reopen {r}: {count}\n")
 }
 
 fn give_words(alloc: Global, answer: GiveAnswer) -> Result<String, OutOfMemory>
@@ -610,6 +617,7 @@ fn push_plain(alloc: Global, out: &mut String, line: &Report) -> Result<(), OutO
             replica,
             answer,
         } => push_give(alloc, out, *number, *replica, *answer),
+        Report::Reopen { replica, count } => push_reopen(out, *replica, *count),
         Report::Query {
             number,
             applied,

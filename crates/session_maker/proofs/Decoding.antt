@@ -1,6 +1,6 @@
 -- The text of a session that is made decodes to it.
 use Rattle.std.proofs.Common.{◌≡◌, ℕ, zero, suc, ◌+◌, ◌≤◌, Bool, true, false, cond, List, [], ◌∷◌, ◌++◌, map, length, Some, None, Ok, Err, inl, inr, refl, ap, ap₂, ◌∙◌, arith, append_assoc}
-use Rattle.std.specs.Prelude.{◌&&◌, codes, nat_le, nat_lt, ok_or, option_and_then, option_map}
+use Rattle.std.specs.Prelude.{◌&&◌, codes, nat_le, nat_lt, option_and_then, option_map}
 use Rattle.std.specs.List.{onto_first}
 use Rattle.std.proofs.lemmas.Bool.{and_parts, cases_eq, le-leb, le-ltb, leb-true, ne_eqb}
 use Rattle.std.proofs.lemmas.List.{length-map}
@@ -12,15 +12,15 @@ use Rattle.session_lines.specs.Cut.{lines_of}
 use Rattle.session_lines.specs.Heading.{are_replicas, header_of_value, header_with, replicas_from}
 use Rattle.session_lines.specs.Json.{list_of}
 use Rattle.session_lines.specs.Parts.{all_of, id_of_value}
-use Rattle.session_lines.specs.Session.{session_of_text, header_of, header_or_word, is_operation, rest_of, session_of, then_from, with_header, lines_limit}
+use Rattle.session_lines.specs.Session.{session_of_text, header_of, header_or_word, value_or_word, is_operation, rest_of, session_of, then_from, with_header, lines_limit}
 use Rattle.session_lines.specs.declared.fault.DecodeFault.TheVariants.{Lines}
-use Rattle.session_lines.specs.declared.fault.Word.TheVariants as word
 use Rattle.session_lines.specs.declared.header.Header.{Header}
 use Rattle.session_lines.specs.declared.session.SessionLine.{SessionLine}
 use Rattle.session_lines.proofs.Lines.{list_of-items}
 use Rattle.session_maker.specs.Laws.{MadeSessionsDecode}
 use Rattle.session_maker.specs.Made.{base_text, ids_to, made_lines, session_with}
-use Rattle.session_maker.specs.Written.{header_value, line_value, lines_text, number_value, session_text}
+use Rattle.session_maker.specs.Written.{line_value, session_text}
+use Rattle.session_writer.specs.Values.{header_value, lines_text, number_value}
 use Rattle.session_maker.proofs.MadeLines.{made_read, made_short}
 use Rattle.session_maker.proofs.Values.{AreLine, IsLine, is_plain, plain_line, value_back}
 use Rattle.session_maker.proofs.WrittenLines.{AreKnown, AreRead, known_from, rest_read, texts_of}
@@ -59,10 +59,10 @@ module _ (n : ℕ) (some : 1 ≤ n) (most : n ≤ 16) where
   known : AreKnown (ids_to n) (ids_to n)
   known = known_from n 1 n (omega arith) (omega arith) (omega arith)
 
-  head_short : IsLine (header_value base_text (ids_to n)) 2
+  head_short : IsLine (header_value 1 base_text (ids_to n)) 2
   head_short = (plain_head, (omega arith, (plain_base, (ids_short (ids_to n) (ids_to n) known, tt))))
 
-  head_form : header_of_value (header_value base_text (ids_to n)) ≡ Some (record { version = 1; base = base_text; replicas = ids_to n })
+  head_form : header_of_value (header_value 1 base_text (ids_to n)) ≡ Some (record { version = 1; base = base_text; replicas = ids_to n })
   unfolding header_of_value
   head_form =
       let ds : List Data = map number_value (ids_to n) in
@@ -72,9 +72,9 @@ module _ (n : ℕ) (some : 1 ≤ n) (most : n ≤ 16) where
       ∙ ap (λ o. header_with (Some 1) (Some base_text) (option_and_then (λ ids. cond (are_replicas ids) (Some ids) None) o)) (ids_from (ids_to n) (ids_to n) known)
       ∙ ap (λ (b : Bool). header_with (Some 1) (Some base_text) (cond b (Some (ids_to n)) None)) good
 
-  head_read : header_of (compact_text (header_value base_text (ids_to n))) ≡ Ok (record { version = 1; base = base_text; replicas = ids_to n })
+  head_read : header_of false (compact_text (header_value 1 base_text (ids_to n))) ≡ Ok (record { version = 1; base = base_text; replicas = ids_to n })
   unfolding header_of
-  head_read = ap header_or_word (value_back (header_value base_text (ids_to n)) 2 (omega arith) head_short) ∙ ap (λ o. ok_or o word.Header) head_form
+  head_read = ap (header_or_word false) (value_back (header_value 1 base_text (ids_to n)) 2 (omega arith) head_short) ∙ ap (value_or_word false) head_form
 
 -- ---- the lines of the text
 
@@ -96,19 +96,19 @@ cut_lines ids a b (l ∷ ls) h =
 -- ---- the session
 
 module _ (n : ℕ) (some : 1 ≤ n) (most : n ≤ 16) where
-  session_read : (b : ℕ) (ls : List SessionLine) → AreRead (ids_to n) 0 ls b → length ls ≤ 1000000 → session_of_text (session_text (session_with n ls)) ≡ Ok (session_with n ls)
+  session_read : (b : ℕ) (ls : List SessionLine) → AreRead (ids_to n) 0 ls b → length ls ≤ 1000000 → session_of_text false (session_text (session_with n ls)) ≡ Ok (session_with n ls)
   unfolding session_of_text
   session_read b ls h short =
-      let d : Data = header_value base_text (ids_to n) in
+      let d : Data = header_value 1 base_text (ids_to n) in
       let first : List ℕ = compact_text d in
       let header : Header = record { version = 1; base = base_text; replicas = ids_to n } in
       let lines : lines_of (session_text (session_with n ls)) ≡ first ∷ texts_of ls =
       cut_value d (map line_value ls) (plain_line d 2 (head_short n some most)) ∙ ap (λ ts. first ∷ ts) (cut_lines (ids_to n) 0 b ls h) in
       let few : nat_lt lines_limit (length (first ∷ texts_of ls)) ≡ false =
       le-ltb lines_limit (length (first ∷ texts_of ls)) (omega (arith, length-map ls (λ l. compact_text (line_value l)))) in
-      ap (λ ts. cond (nat_lt lines_limit (length ts)) (Err (Lines (length ts))) (session_of ts)) lines
-      ∙ ap (λ (t : Bool). cond t (Err (Lines (length (first ∷ texts_of ls)))) (session_of (first ∷ texts_of ls))) few
-      ∙ ap (λ o. then_from 1 o (λ h. with_header h (rest_of h.replicas [] (texts_of ls)))) (head_read n some most)
+      ap (λ ts. cond (nat_lt lines_limit (length ts)) (Err (Lines (length ts))) (session_of false ts)) lines
+      ∙ ap (λ (t : Bool). cond t (Err (Lines (length (first ∷ texts_of ls)))) (session_of false (first ∷ texts_of ls))) few
+      ∙ ap (λ o. then_from 1 o (λ h. with_header h (rest_of false h [] (texts_of ls)))) (head_read n some most)
       ∙ ap (with_header header) (rest_read (ids_to n) [] 0 b ls refl h)
 
 pub made_sessions_decode : (S : Type 0) → MadeSessionsDecode S

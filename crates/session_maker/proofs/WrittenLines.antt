@@ -14,10 +14,11 @@ use Rattle.session_lines.specs.Forms.{edit_with, give_with, line_of_value, undo_
 use Rattle.session_lines.specs.Parts.{is_among}
 use Rattle.session_lines.specs.Session.{form_or_word, is_known, is_named, is_number_of, is_numbered, is_operation, line_of, line_or_word, operation_count, rest_of, then_from, unless}
 use Rattle.session_lines.specs.declared.fault.Word.TheVariants as word
+use Rattle.session_lines.specs.declared.header.Header.{Header}
 use Rattle.session_lines.specs.declared.session.SessionLine.{SessionLine}
 use Rattle.session_lines.specs.declared.session.SessionLine.TheVariants.{Undo, Give}
 use Rattle.session_lines.proofs.Queries.{numbered_one}
-use Rattle.session_maker.specs.Made.{gives_to, ids_to}
+use Rattle.session_maker.specs.Made.{base_text, gives_to, ids_to}
 use Rattle.session_maker.specs.Turns.{edit_line}
 use Rattle.session_maker.specs.Written.{line_value}
 use Rattle.session_maker.proofs.Values.{IsLine, is_plain, plain-one, plain_line, value_back}
@@ -52,29 +53,33 @@ plain_nothing = refl
 
 -- ---- a line behind so many operation lines
 
+-- the header of a session that is made, whose replicas have the ids
+abbrev pub made_header : List ℕ → Header
+made_header ids = record { version = 1; base = base_text; replicas = ids }
+
 -- what is written for the line reads as it, behind any lines of which so many are operation lines
 abbrev pub IsRead : List ℕ → ℕ → SessionLine → Type 0
-IsRead ids count line = (is_plain (compact_text (line_value line)) ≡ true) × ((before : List SessionLine) → operation_count before ≡ count → line_of ids before (compact_text (line_value line)) ≡ Ok line)
+IsRead ids count line = (is_plain (compact_text (line_value line)) ≡ true) × ((before : List SessionLine) → operation_count before ≡ count → line_of false (made_header ids) before (compact_text (line_value line)) ≡ Ok line)
 
-is_read : (ids : List ℕ) (count : ℕ) (line : SessionLine) → IsLine (line_value line) 3 → line_of_value (line_value line) ≡ Some line → is_known ids line ≡ true → is_numbered count line ≡ true
+is_read : (ids : List ℕ) (count : ℕ) (line : SessionLine) → IsLine (line_value line) 3 → line_of_value 1 (line_value line) ≡ Some line → is_known ids line ≡ true → is_numbered count line ≡ true
     → ((before : List SessionLine) → is_named before line ≡ true) → IsRead ids count line
 unfolding line_of
 is_read ids count line h form known numbered named = (
   plain_line (line_value line) 3 h,
-  λ before e. ap (line_or_word ids before) (value_back (line_value line) 3 (omega arith) h) ∙ ap (form_or_word ids before) form
-      ∙ ap (λ a. unless line (first_of (when (not a) word.Replica ∷ when (not (is_numbered (operation_count before) line)) word.Number ∷ when (not (is_named before line)) word.Name ∷ []))) known
-      ∙ ap₂ (λ b c. unless line (first_of (None ∷ when (not b) word.Number ∷ when (not c) word.Name ∷ []))) (ap (λ z. is_numbered z line) e ∙ numbered) (named before),
+  λ before e. ap (line_or_word false (made_header ids) before) (value_back (line_value line) 3 (omega arith) h) ∙ ap (form_or_word false (made_header ids) before) form
+      ∙ ap (λ a. unless line (first_of (when (not a) word.Replica ∷ when (not (is_numbered (operation_count before) line)) word.Number ∷ when (not (is_named before line)) word.Name ∷ None ∷ []))) known
+      ∙ ap₂ (λ b c. unless line (first_of (None ∷ when (not b) word.Number ∷ when (not c) word.Name ∷ None ∷ []))) (ap (λ z. is_numbered z line) e ∙ numbered) (named before),
 )
 
-form_of_edit : (r s e : ℕ) (t : List ℕ) → r ≤ 65535 → line_of_value (line_value (edit_line r s e t)) ≡ Some (edit_line r s e t)
+form_of_edit : (r s e : ℕ) (t : List ℕ) → r ≤ 65535 → line_of_value 1 (line_value (edit_line r s e t)) ≡ Some (edit_line r s e t)
 unfolding line_of_value
 form_of_edit r s e t h = ap (λ (b : Bool). edit_with (cond b (Some r) None) (Some (record { start = s; end = e; text = t } ∷ []))) (le-leb r 65535 h)
 
-form_of_undo : (r m : ℕ) → r ≤ 65535 → line_of_value (line_value (Undo r (m ∷ []))) ≡ Some (Undo r (m ∷ []))
+form_of_undo : (r m : ℕ) → r ≤ 65535 → line_of_value 1 (line_value (Undo r (m ∷ []))) ≡ Some (Undo r (m ∷ []))
 unfolding line_of_value
 form_of_undo r m h = ap (λ (b : Bool). undo_with (cond b (Some r) None) (Some (m ∷ []))) (le-leb r 65535 h)
 
-form_of_give : (r m : ℕ) → r ≤ 65535 → line_of_value (line_value (Give r m)) ≡ Some (Give r m)
+form_of_give : (r m : ℕ) → r ≤ 65535 → line_of_value 1 (line_value (Give r m)) ≡ Some (Give r m)
 unfolding line_of_value
 form_of_give r m h = ap (λ (b : Bool). give_with (cond b (Some r) None) (Some m)) (le-leb r 65535 h)
 
@@ -108,13 +113,13 @@ counted false a = omega arith
 abbrev pub texts_of : List SessionLine → List (List ℕ)
 texts_of ls = map (λ l. compact_text (line_value l)) ls
 
-pub rest_read : (ids : List ℕ) (before : List SessionLine) (a b : ℕ) (ls : List SessionLine) → operation_count before ≡ a → AreRead ids a ls b → rest_of ids before (texts_of ls) ≡ Ok (before ++ ls)
+pub rest_read : (ids : List ℕ) (before : List SessionLine) (a b : ℕ) (ls : List SessionLine) → operation_count before ≡ a → AreRead ids a ls b → rest_of false (made_header ids) before (texts_of ls) ≡ Ok (before ++ ls)
 rest_read ids before a b [] e h = ap Ok (sym (append-nil before))
 rest_read ids before a b (l ∷ ls) e h =
-    let here : line_of ids before (compact_text (line_value l)) ≡ Ok l = h.0.1 before e in
+    let here : line_of false (made_header ids) before (compact_text (line_value l)) ≡ Ok l = h.0.1 before e in
     let more : operation_count (before ++ l ∷ []) ≡ cond (is_operation l) (a + 1) a =
     sum_by_push (λ x. cond (is_operation x) 1 0) before l ∙ ap (λ z. z + cond (is_operation l) 1 0) e ∙ counted (is_operation l) a in
-    ap (λ o. then_from (2 + length before) o (λ x. rest_of ids (before ++ x ∷ []) (texts_of ls))) here
+    ap (λ o. then_from (2 + length before) o (λ x. rest_of false (made_header ids) (before ++ x ∷ []) (texts_of ls))) here
     ∙ rest_read ids (before ++ l ∷ []) (cond (is_operation l) (a + 1) a) b ls more h.1 ∙ ap Ok (append_assoc before (l ∷ []) ls)
 
 -- ---- gives

@@ -1,5 +1,5 @@
 -- What a session that is made is, read back from its text.
-use Rattle.std.specs.Prelude.{◌≡◌, ℕ, ◌≤◌, List, Ok}
+use Rattle.std.specs.Prelude.{◌≡◌, ℕ, ◌≤◌, List, Ok, false}
 use Rattle.session_lines.specs.Session.{session_of_text}
 use Rattle.session_lines.specs.declared.session.SessionLine.{SessionLine}
 use Rattle.session_maker.specs.Made.{made_lines, session_with}
@@ -12,4 +12,4 @@ MadeSessionsDecode S =
     (after : List SessionLine → S → S) → (length_at : ℕ → S → ℕ) → (s : S) → (seed n edits : ℕ)
     → 1 ≤ n → n ≤ 16 → edits ≤ 20000
     → let session = session_with n (made_lines after length_at seed n edits s) in
-    session_of_text (session_text session) ≡ Ok session
+    session_of_text false (session_text session) ≡ Ok session

@@ -1,19 +1,11 @@
 -- A session that is made, as it is written: the header and then each line, as JSON texts that end with a line feed.
-use Rattle.std.specs.Prelude.{ℕ, List, [], ◌∷◌, ◌++◌, map, codes}
-use Rattle.std.specs.List.{flat_map}
-use Rattle.serde_json.specs.Data.{Data, array, null, number, string, unsigned}
-use Rattle.serde_json.specs.View.{items_of}
-use Rattle.serde_json.specs.Written.{compact_text}
+use Rattle.std.specs.Prelude.{ℕ, List, [], ◌∷◌, map, codes}
+use Rattle.serde_json.specs.Data.{Data, null, string}
 use Rattle.op_model.specs.declared.operation.Piece.{Piece}
 use Rattle.session_lines.specs.declared.session.Session.{Session}
 use Rattle.session_lines.specs.declared.session.SessionLine.{SessionLine}
 use Rattle.session_lines.specs.declared.session.SessionLine.TheVariants.{Edit, Undo, Give}
-
-abbrev pub number_value : ℕ → Data
-number_value n = number (unsigned n)
-
-abbrev pub list_value : List Data → Data
-list_value ds = array (items_of ds)
+use Rattle.session_writer.specs.Values.{header_value, lines_text, list_value, number_value}
 
 -- [start, end, "text"]
 abbrev pub piece_value : Piece → Data
@@ -26,15 +18,6 @@ line_value (Undo r ns) = list_value (string (codes "undo") ∷ number_value r �
 line_value (Give r n) = list_value (string (codes "give") ∷ number_value r ∷ number_value n ∷ [])
 line_value _ = null
 
--- ["zedbuf", 1, "base", [replica, ..]]
-abbrev pub header_value : List ℕ → List ℕ → Data
-header_value base ids =
-    list_value (string (codes "zedbuf") ∷ number_value 1 ∷ string base ∷ list_value (map number_value ids) ∷ [])
-
--- each value on a line of its own, without spaces
-abbrev pub lines_text : List Data → List ℕ
-lines_text ds = flat_map (λ d. compact_text d ++ codes "\n") ds
-
 -- the text of a session whose lines are of the kinds that are made
 abbrev pub session_text : Session → List ℕ
-session_text s = lines_text (header_value s.base s.replicas ∷ map line_value s.lines)
+session_text s = lines_text (header_value 1 s.base s.replicas ∷ map line_value s.lines)

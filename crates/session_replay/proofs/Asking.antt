@@ -115,6 +115,7 @@ few_at q (line.Since r n) s = none_asked
 few_at q (line.Find r t) s = one_of q r _ (buffer_of r s.buffers)
 few_at q (line.Point r o) s = one_of q r _ (buffer_of r s.buffers)
 few_at q (line.Offset r k c) s = one_of q r _ (buffer_of r s.buffers)
+few_at q (line.Reopen r) s = none_asked
 
 -- a line that asks is a query
 pub is_asked : (l : SessionLine) (a : ℕ × Question) → Some a ≡ question_of l → is_query l ≡ true
@@ -131,6 +132,7 @@ is_asked (line.Since r n) a e = absurd (cc e)
 is_asked (line.Find r t) a e = refl
 is_asked (line.Point r o) a e = refl
 is_asked (line.Offset r k c) a e = refl
+is_asked (line.Reopen r) a e = absurd (cc e)
 
 pub asks_count : (l : SessionLine) (a : ℕ × Question) → Some a ≡ question_of l → query_count (l ∷ []) ≡ 1
 asks_count l a e = count_cons l [] ∙ ap (λ (b : Bool). cond b 1 0 + query_count []) (is_asked l a e)
@@ -226,6 +228,7 @@ asks_only (line.Since r n) a e s = absurd (cc e)
 asks_only (line.Find r t) a e s = (refl, refl)
 asks_only (line.Point r o) a e s = (refl, refl)
 asks_only (line.Offset r k c) a e s = (refl, refl)
+asks_only (line.Reopen r) a e s = absurd (cc e)
 
 pub no_question : (q : ℕ) (l : SessionLine) (s : State) → None ≡ question_of l → query_at q l s ≡ []
 no_question q l s e = ap (query_with q s) (sym e)

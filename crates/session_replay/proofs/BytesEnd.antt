@@ -1,5 +1,5 @@
 -- How the program ends on bytes, where no read and no write fails.
-use Rattle.std.proofs.Common.{◌≡◌, ℕ, ◌<◌, ◌≤◌, ◌⊎◌, inl, inr, List, length, ◌∙◌, subst, arith, Option, Some, Err}
+use Rattle.std.proofs.Common.{◌≡◌, ℕ, ◌<◌, ◌≤◌, ◌⊎◌, inl, inr, List, length, ◌∙◌, subst, arith, Option, Some, Err, Bool}
 use Rattle.session_lines.specs.Cut.{lines_of}
 use Rattle.session_lines.specs.Session.{session_of_text, lines_limit}
 use Rattle.session_lines.specs.declared.fault.Word.{Word}
@@ -27,10 +27,10 @@ not_last (inr (inr c)) n = absurd (never_rose (n c))
 
 module _ (left bytes : List ℕ) (is : left ≡ bytes) (left_after : Option (List ℕ)) (given given_after ends ends_after : ℕ) where
   -- they have a first bad line
-  pub is_bad : (P : ℕ → Word → Type 0) → (input : List ℕ) × WasRead (Some left) left_after given given_after ends ends_after input × (length input ≤ session_limit)
-      × ((n : ℕ) × (w : Word) × (session_of_text input ≡ Err (Bad n w)) × P n w) → (length bytes ≤ session_limit) × ((n : ℕ) × (w : Word) × (session_of_text bytes ≡ Err (Bad n w)))
-  is_bad P r =
-      subst (λ (b : List ℕ). (length b ≤ session_limit) × ((n : ℕ) × (w : Word) × (session_of_text b ≡ Err (Bad n w)))) (r.1.had ∙ is) (r.2, (r.3.0, r.3.1, r.3.2))
+  pub is_bad : (m : Bool) (P : ℕ → Word → Type 0) → (input : List ℕ) × WasRead (Some left) left_after given given_after ends ends_after input × (length input ≤ session_limit)
+      × ((n : ℕ) × (w : Word) × (session_of_text m input ≡ Err (Bad n w)) × P n w) → (length bytes ≤ session_limit) × ((n : ℕ) × (w : Word) × (session_of_text m bytes ≡ Err (Bad n w)))
+  is_bad m P r =
+      subst (λ (b : List ℕ). (length b ≤ session_limit) × ((n : ℕ) × (w : Word) × (session_of_text m b ≡ Err (Bad n w)))) (r.1.had ∙ is) (r.2, (r.3.0, r.3.1, r.3.2))
 
   -- they are too many, or have too many lines
   pub is_large : (P Q R : Type 0) → ((session_limit < length left) × P × Q) ⊎ ((input : List ℕ) × WasRead (Some left) left_after given given_after ends ends_after input

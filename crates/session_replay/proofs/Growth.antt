@@ -12,7 +12,7 @@ use Rattle.session_lines.specs.declared.report.Report.{Report}
 use Rattle.session_lines.specs.declared.session.SessionLine.{SessionLine}
 use Rattle.session_lines.specs.declared.session.SessionLine.TheVariants as line
 use Rattle.session_replay.specs.Later.{AllGrow, Grows}
-use Rattle.session_replay.specs.Work.{State, after_all, after_give, after_outcome, buffer_of, edit_outcome, next_number, operation_of, step, undo_outcome, with_buffer}
+use Rattle.session_replay.specs.Work.{State, after_all, after_give, after_outcome, after_reopen, buffer_of, edit_outcome, next_number, operation_of, step, undo_outcome, with_buffer}
 use Rattle.text_buffer.proofs.Fronts.{front_itself, front_length, front_trans}
 use Rattle.text_buffer.proofs.Stopped.{stopped_front}
 
@@ -34,6 +34,9 @@ outcome_grows (Err r) b = grows_itself b
 pub give_grows : (o : Option Operation) (b : BufferState) → Grows b (after_give o b)
 give_grows None b = grows_itself b
 give_grows (Some op) b = calls_grow (Takes op ∷ []) b
+
+pub reopen_grows : (b : BufferState) → Grows b (after_reopen b)
+reopen_grows b = (refl, front_itself b.history)
 
 -- a call of `take`, or of `settle`, that fails may have applied operations
 took_grows : {T E : Type 0} (x : Result T E) (op : Operation) (b n : BufferState) → OnOk x (n ≡ after_take b op) → OnErr x ((n ≡ b) ⊎ IsStopped (Takes op) b n) → IsFront b.history n.history
@@ -95,6 +98,7 @@ step_grows (line.Since r n) s = all_themselves s.buffers
 step_grows (line.Find r t) s = all_themselves s.buffers
 step_grows (line.Point r o) s = all_themselves s.buffers
 step_grows (line.Offset r k c) s = all_themselves s.buffers
+step_grows (line.Reopen r) s = one_grows r after_reopen reopen_grows s.buffers
 
 pub lines_grow : (ls : List SessionLine) (s : State) → AllGrow s.buffers (after_all ls s).buffers
 lines_grow [] s = all_themselves s.buffers

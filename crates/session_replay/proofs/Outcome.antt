@@ -11,11 +11,9 @@ use Rattle.session_lines.specs.declared.fault.DecodeFault.TheVariants.{Lines, Ba
 use Rattle.session_lines.proofs.Faults.{too_many, never_memory}
 use Rattle.session_replay.specs.Causes.{RoseBy}
 use Rattle.session_replay.specs.Traffic.{Had, session_limit}
-use Rattle.session_replay.specs.Queries.{IsReport}
-use Rattle.session_replay.specs.Replay.{large_line, response_of, response_with, written_for, IsPrepared, IsReady, IsResponse, IsWritten, RespondsToSource, Writes}
+use Rattle.session_replay.specs.Replay.{large_line, migrates, refusal, response_of, response_with, IsNone, IsPrepared, IsReady, IsResponse, IsWritten, RespondsToSource, Writes}
 use Rattle.session_replay.specs.declared.top.Prepared.{Prepared}
 use Rattle.session_replay.specs.declared.top.Prepared.TheVariants as prepared
-use Rattle.session_replay.proofs.Replies.{plain_report}
 use Rattle.command_words.specs.declared.command.Task.{Task}
 use Rattle.command_words.specs.declared.command.Task.TheVariants as task
 use Rattle.session_replay.specs.declared.top.Status.{Status}
@@ -25,20 +23,26 @@ use Rattle.session_replay.specs.declared.top.Status.TheVariants as status
 
 pub large_answer : (c : Task) (input : List ℕ) → session_limit < length input → response_of c input ≡ (status.TooLarge, large_line)
 unfolding response_of
-large_answer c input h = ap (λ b. cond b (status.TooLarge, large_line) (response_with c (session_of_text input))) (lt-ltb session_limit (length input) h)
+large_answer c input h = ap (λ b. cond b (status.TooLarge, large_line) (response_with c input (session_of_text (migrates c) input))) (lt-ltb session_limit (length input) h)
 
-small_answer : (c : Task) (input : List ℕ) → length input ≤ session_limit → response_of c input ≡ response_with c (session_of_text input)
+small_answer : (c : Task) (input : List ℕ) → length input ≤ session_limit → response_of c input ≡ response_with c input (session_of_text (migrates c) input)
 unfolding response_of
-small_answer c input le = ap (λ b. cond b (status.TooLarge, large_line) (response_with c (session_of_text input))) (le-ltb session_limit (length input) le)
+small_answer c input le = ap (λ b. cond b (status.TooLarge, large_line) (response_with c input (session_of_text (migrates c) input))) (le-ltb session_limit (length input) le)
 
-pub session_answer : (c : Task) (input : List ℕ) (s : Session) → length input ≤ session_limit → session_of_text input ≡ Ok s → response_of c input ≡ (status.Done, written_for c s)
-session_answer c input s le e = small_answer c input le ∙ ap (response_with c) e
+-- an input that is no session
+pub refused_answer : (c : Task) (input : List ℕ) (e : DecodeFault) (st : Status) (text : List ℕ) → length input ≤ session_limit → session_of_text (migrates c) input ≡ Err e → refusal e ≡ (st, text) → IsResponse c input st text
+refused_answer c input e st text le is r = inr (inr (e, is), small_answer c input le ∙ (ap (response_with c input) is ∙ r))
+
+-- a session within the limit is none of these
+pub some : {P : Type 0} (c : Task) (input : List ℕ) (s : Session) → length input ≤ session_limit → session_of_text (migrates c) input ≡ Ok s → IsNone c input → P
+some c input s le e (inl h) = absurd (omega (arith, h, le))
+some c input s le e (inr h) = let f : Ok s ≡ Err h.0 = sym e ∙ h.1 in cc
 
 -- ---- what a status tells
 
 pub record Told (c : Task) (input : List ℕ) (st : Status) (text : List ℕ) : Type 0 where
-  pub done : st ≡ status.Done → (length input ≤ session_limit) × ((s : Session) × (session_of_text input ≡ Ok s) × Writes c s text)
-  pub session : st ≡ status.Session → (length input ≤ session_limit) × ((n : ℕ) × (w : Word) × (session_of_text input ≡ Err (Bad n w)) × (bad_line n w ≡ text))
+  pub done : st ≡ status.Done → (length input ≤ session_limit) × ((s : Session) × (session_of_text (migrates c) input ≡ Ok s) × Writes c input s text)
+  pub session : st ≡ status.Session → (length input ≤ session_limit) × ((n : ℕ) × (w : Word) × (session_of_text (migrates c) input ≡ Err (Bad n w)) × (bad_line n w ≡ text))
   pub large : st ≡ status.TooLarge → ((session_limit < length input) × (large_line ≡ text)) ⊎ ((length input ≤ session_limit) × (lines_limit < length (lines_of input)) × (many_line ≡ text))
   pub kinds : (st ≡ status.Done) ⊎ ((st ≡ status.Session) ⊎ (st ≡ status.TooLarge))
 
@@ -51,45 +55,35 @@ first a st t text e = ap (λ p. p.0) e
 second : (a st : Status) (t text : List ℕ) → ◌≡◌ {A = Status × List ℕ} (a, t) (st, text) → t ≡ text
 second a st t text e = ap (λ p. p.1) e
 
-plain_written : (c : Task) (s : Session) (text : List ℕ) → written_for c s ≡ text → Writes c s text
-plain_written (task.Replay workers) s text e = subst (IsReport s workers) e (plain_report s workers)
-plain_written task.Check s text e = sym e
-
-told_by : (c : Task) (input : List ℕ) (b : Bool) (r : Result Session DecodeFault) (st : Status) (text : List ℕ) → nat_lt session_limit (length input) ≡ b → session_of_text input ≡ r
-    → cond b (status.TooLarge, large_line) (response_with c r) ≡ (st, text) → Told c input st text
-told_by c input true r st text l d e =
+told_by : (c : Task) (input : List ℕ) (b : Bool) (r : Result Session DecodeFault) (st : Status) (text : List ℕ) → IsNone c input → nat_lt session_limit (length input) ≡ b → session_of_text (migrates c) input ≡ r
+    → cond b (status.TooLarge, large_line) (response_with c input r) ≡ (st, text) → Told c input st text
+told_by c input true r st text no l d e =
     let f = first status.TooLarge st large_line text e in record {
       done = λ k. differ status.TooLarge st status.Done f k (λ x. cc);
       session = λ k. differ status.TooLarge st status.Session f k (λ x. cc);
       large = λ k. inl (ltb-true session_limit (length input) l, second status.TooLarge st large_line text e);
       kinds = inr (inr (sym f));
     }
-told_by c input false (Ok s) st text l d e =
-    let f = first status.Done st (written_for c s) text e in record {
-      done = λ k. (ltb-false session_limit (length input) l, (s, d, plain_written c s text (second status.Done st (written_for c s) text e)));
-      session = λ k. differ status.Done st status.Session f k (λ x. cc);
-      large = λ k. differ status.Done st status.TooLarge f k (λ x. cc);
-      kinds = inl (sym f);
-    }
-told_by c input false (Err (Lines n)) st text l d e =
+told_by c input false (Ok s) st text no l d e = some c input s (ltb-false session_limit (length input) l) d no
+told_by c input false (Err (Lines n)) st text no l d e =
     let f = first status.TooLarge st many_line text e in record {
       done = λ k. differ status.TooLarge st status.Done f k (λ x. cc);
       session = λ k. differ status.TooLarge st status.Session f k (λ x. cc);
-      large = λ k. inr (ltb-false session_limit (length input) l, too_many input n d, second status.TooLarge st many_line text e);
+      large = λ k. inr (ltb-false session_limit (length input) l, too_many (migrates c) input n d, second status.TooLarge st many_line text e);
       kinds = inr (inr (sym f));
     }
-told_by c input false (Err (Bad n w)) st text l d e =
+told_by c input false (Err (Bad n w)) st text no l d e =
     let f = first status.Session st (bad_line n w) text e in record {
       done = λ k. differ status.Session st status.Done f k (λ x. cc);
       session = λ k. (ltb-false session_limit (length input) l, (n, w, d, second status.Session st (bad_line n w) text e));
       large = λ k. differ status.Session st status.TooLarge f k (λ x. cc);
       kinds = inr (inl (sym f));
     }
-told_by c input false (Err OutOfMemory) st text l d e = absurd (never_memory input d)
+told_by c input false (Err OutOfMemory) st text no l d e = absurd (never_memory (migrates c) input d)
 
-plainly_told : (c : Task) (input : List ℕ) (st : Status) (text : List ℕ) → response_of c input ≡ (st, text) → Told c input st text
+plainly_told : (c : Task) (input : List ℕ) (st : Status) (text : List ℕ) → IsNone c input → response_of c input ≡ (st, text) → Told c input st text
 unfolding response_of
-plainly_told c input st text e = told_by c input (nat_lt session_limit (length input)) (session_of_text input) st text refl refl e
+plainly_told c input st text no e = told_by c input (nat_lt session_limit (length input)) (session_of_text (migrates c) input) st text no refl refl e
 
 pub told : (c : Task) (input : List ℕ) (st : Status) (text : List ℕ) → IsResponse c input st text → Told c input st text
 told c input st text (inl w) = record {
@@ -98,7 +92,7 @@ told c input st text (inl w) = record {
   large = λ k. differ status.Done st status.TooLarge (sym w.0) k (λ x. cc);
   kinds = inl w.0;
 }
-told c input st text (inr e) = plainly_told c input st text e
+told c input st text (inr e) = plainly_told c input st text e.0 e.1
 
 -- ---- what was answered for a source
 
@@ -110,7 +104,7 @@ module _ (c : Task) (left left_after : Option (List ℕ)) (given given_after end
   answered_large text e h r = record {
     input = h.0;
     taken = record { had = h.1; whole = λ le. absurd (omega (arith, h.2)); large = λ _. r };
-    response = inr (large_answer c h.0 h.2 ∙ ap (λ t. (status.TooLarge, t)) (sym e));
+    response = inr (inl h.2, large_answer c h.0 h.2 ∙ ap (λ t. (status.TooLarge, t)) (sym e));
   }
 
 -- ---- what was prepared
@@ -122,4 +116,4 @@ is_ready c input (prepared.Beside workers s) h = (h.1, h.4)
 pub written_response : (c : Task) (input : List ℕ) (p : Prepared) (st : Status) (text : List ℕ) → IsPrepared c input p → IsWritten p st text → IsResponse c input st text
 written_response c input (prepared.Response st0 text0) st text h w = subst (λ (s : Status). IsResponse c input s text) (sym w.0) (subst (λ (t : List ℕ). IsResponse c input st0 t) (sym w.1) h)
 written_response c input (prepared.Beside workers s) st text h w =
-    inl (w.0, h.2, (s, h.3, subst (λ (d : Task). Writes d s text) (sym h.0) w.1))
+    inl (w.0, h.2, (s, h.3, subst (λ (d : Task). Writes d input s text) (sym h.0) w.1))

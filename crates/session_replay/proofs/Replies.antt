@@ -211,6 +211,7 @@ no_query_of q (line.Since r n) s e = refl
 no_query_of q (line.Find r t) s e = absurd (cc e)
 no_query_of q (line.Point r o) s e = absurd (cc e)
 no_query_of q (line.Offset r k c) s e = absurd (cc e)
+no_query_of q (line.Reopen r) s e = refl
 
 none_first : (t : Bool) (n : ℕ) → cond t 1 0 + n ≡ 0 → (t ≡ false) × (n ≡ 0)
 none_first true n e = absurd (omega arith)

@@ -1,5 +1,5 @@
 -- Worked rows, from the bytes of a session to those of its report: the definitions compute.
-use Rattle.std.proofs.Common.{◌≡◌, ℕ, refl}
+use Rattle.std.proofs.Common.{◌≡◌, ℕ, refl, false}
 use Rattle.std.specs.Prelude.{codes}
 use Rattle.std.specs.Fmt.{digits}
 use Rattle.std.specs.Str.{is_utf8, chars}
@@ -10,7 +10,7 @@ use Rattle.session_lines.specs.Forms.{line_of_value}
 use Rattle.session_lines.specs.Heading.{header_of_value}
 use Rattle.session_lines.specs.Session.{session_of_text, header_of, line_of}
 use Rattle.session_lines.specs.Words.{bad_line}
-use Rattle.session_lines.specs.Report.{report_text, line_text, made_line, refused_edit_line, refused_undo_line, unnamed_line, settled_line, give_line, text_line, replica_line, refused_op_line, query_line, anchor_line, where_line, mark_line, since_line, checked_line}
+use Rattle.session_lines.specs.Report.{report_text, line_text, made_line, refused_edit_line, refused_undo_line, unnamed_line, settled_line, reopen_line, give_line, text_line, replica_line, refused_op_line, query_line, anchor_line, where_line, mark_line, since_line, checked_line}
 use Rattle.text_dims.specs.Counts.{utf16_count, newline_count, rows, last_row}
 use Rattle.text_dims.specs.Summaries.{end_point}
 use Rattle.text_dims.specs.Places.{end_place, places}
@@ -64,6 +64,12 @@ pub edits_at_one_place : response_of (Replay 2) (codes "[\"zedbuf\",1,\"ab\",[1,
     ≡ (status.Done, codes "1: 2.1\n2: 2.2\ngive 1 to 2: applied 1\ngive 2 to 1: applied 1\nreplica 1: 4 bytes, 1 rows, 2 applied, 0 waiting, 0 refused\nfinal 1: \"aYXb\"\nreplica 2: 4 bytes, 1 rows, 2 applied, 0 waiting, 0 refused\nfinal 2: \"aYXb\"\n")
 unfolding response_of open_histories report_of report_text session_of_text value_of line_of_value header_of_value header_of line_of line_text made_line refused_edit_line settled_line give_line text_line replica_line refused_op_line digits escape_byte is_utf8 chars end_point newline_count rows last_row serde_json_on_literals
 edits_at_one_place = refl
+
+-- a replica is opened with what it has applied: what waited is gone
+pub reopened : response_of (Replay 2) (codes "[\"zedbuf\",2,\"\",[1,2]]\n[\"edit\",1,[[0,0,\"a\"]]]\n[\"edit\",1,[[1,1,\"b\"]]]\n[\"give\",2,2]\n[\"reopen\",2]\n[\"give\",2,1]\n")
+    ≡ (status.Done, codes "1: 2.1\n2: 3.1\ngive 2 to 2: waits 1 2\nreopen 2: 0\ngive 1 to 2: applied 1\nreplica 1: 2 bytes, 1 rows, 2 applied, 0 waiting, 0 refused\nfinal 1: \"ab\"\nreplica 2: 1 bytes, 1 rows, 1 applied, 0 waiting, 0 refused\nfinal 2: \"a\"\n")
+unfolding response_of open_histories report_of report_text session_of_text value_of line_of_value header_of_value header_of line_of line_text made_line refused_edit_line settled_line reopen_line give_line text_line replica_line refused_op_line digits escape_byte is_utf8 chars end_point newline_count rows last_row serde_json_on_literals
+reopened = refl
 
 pub applied_behind_an_edit : response_of (Replay 2) (codes "[\"zedbuf\",1,\"ab\",[1,2]]\n[\"op\",[3,2],[[0,1],[1,2]],[[0,0,\"q\"]]]\n[\"give\",1,1]\n[\"edit\",1,[[2,2,\"c\"]]]\n[\"text\",1]\n")
     ≡ (status.Done, codes "1: 3.2\ngive 1 to 1: waits 1 2\n2: 2.1\nsettled 1: 1\ntext 1: 4 bytes, end 0:4, 1 rows, \"qabc\"\nreplica 1: 4 bytes, 1 rows, 2 applied, 0 waiting, 0 refused\nfinal 1: \"qabc\"\nreplica 2: 2 bytes, 1 rows, 0 applied, 0 waiting, 0 refused\nfinal 2: \"ab\"\n")

@@ -1,23 +1,28 @@
 -- What the report of a session is that is replayed without workers.
-use Rattle.std.specs.Prelude.{◌≡◌, ℕ, List, Ok}
+use Rattle.std.specs.Prelude.{◌≡◌, ℕ, List, Ok, ◌↔◌, false}
 use Rattle.session_lines.specs.Session.{session_of_text, query_count}
 use Rattle.session_lines.specs.Report.{report_text}
 use Rattle.session_lines.specs.declared.session.Session.{Session}
 use Rattle.session_replay.specs.Queries.{report_of}
-use Rattle.session_replay.specs.Replay.{Replays}
+use Rattle.session_replay.specs.Replay.{Migrates, Replays}
 
 -- without workers the output is the plain report, whatever the order in which operations came
 abbrev pub PlainWithoutWorkers : Type 0
 PlainWithoutWorkers = (input output : List ℕ) → Replays input output 0
-    → (s : Session) × (session_of_text input ≡ Ok s) × (output ≡ report_text (report_of s))
+    → (s : Session) × (session_of_text false input ≡ Ok s) × (output ≡ report_text (report_of s))
 
 -- so it is for a session without queries, whatever the number of workers
 abbrev pub PlainWithoutQueries : Type 0
 PlainWithoutQueries = (input output : List ℕ) → (workers : ℕ) → Replays input output workers
-    → (s : Session) → session_of_text input ≡ Ok s
+    → (s : Session) → session_of_text false input ≡ Ok s
     → query_count s.lines ≡ 0 → output ≡ report_text (report_of s)
 
 -- and the plain report is one of each number of workers
 abbrev pub PlainWithWorkers : Type 0
 PlainWithWorkers = (input : List ℕ) → (s : Session) → (workers : ℕ)
-    → session_of_text input ≡ Ok s → Replays input (report_text (report_of s)) workers
+    → session_of_text false input ≡ Ok s → Replays input (report_text (report_of s)) workers
+
+-- what `migrate` writes has the report of its input, without workers
+abbrev pub MigratedReportsAlike : Type 0
+MigratedReportsAlike = (input output report : List ℕ) → Migrates input output
+    → Replays input report 0 ↔ Replays output report 0

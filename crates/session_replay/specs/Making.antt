@@ -1,5 +1,5 @@
 -- A session that is made by a seed, and its summary.
-use Rattle.std.specs.Prelude.{◌≡◌, ℕ, ◌+◌, List, [], ◌∷◌, ◌++◌, length, nat_eq, codes, decimal, Bool, true, Option, Ok, is_some, if◌then◌else◌}
+use Rattle.std.specs.Prelude.{◌≡◌, ℕ, ◌+◌, List, [], ◌∷◌, ◌++◌, length, nat_eq, codes, decimal, Bool, true, Option, Ok, is_some, if◌then◌else◌, false}
 use Rattle.std.specs.List.{count_by, flat_map, list_all}
 use Rattle.std.specs.Cmp.Lexicographic.{pointwise}
 use Rattle.std.specs.Option.{option_map_or}
@@ -68,4 +68,4 @@ summary_of s = summary_with (length s.lines) (end_of s)
 abbrev pub Makes : ℕ → ℕ → ℕ → List ℕ → Type 0
 Makes seed n edits output =
     let session = made_session seed n edits in
-    (output ≡ summary_of session) × (session_of_text (session_text session) ≡ Ok session)
+    (output ≡ summary_of session) × (session_of_text false (session_text session) ≡ Ok session)

@@ -79,6 +79,7 @@ question_of (line.Since r n) = None
 question_of (line.Find r needle) = Some (r, StartsOf needle)
 question_of (line.Point r o) = Some (r, PointOf o)
 question_of (line.Offset r row column) = Some (r, OffsetOf (record { row = row; column = column }))
+question_of (line.Reopen r) = None
 
 -- ---- the queries of a session
 

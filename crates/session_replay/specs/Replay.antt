@@ -1,5 +1,6 @@
 -- What an input comes to.
-use Rattle.std.specs.Prelude.{⊤, ◌≡◌, ℕ, ◌<◌, ◌≤◌, ◌⊎◌, List, length, map, nat_lt, codes, Option, Result, Ok, Err, if◌then◌else◌}
+use Rattle.std.specs.Prelude.{⊤, ◌≡◌, ℕ, ◌<◌, ◌≤◌, ◌⊎◌, List, length, map, nat_lt, codes, Option, Result, Ok, Err, if◌then◌else◌, Bool, false, true}
+use Rattle.session_lines.specs.Cut.{lines_of}
 use Rattle.session_lines.specs.Report.{session_counts, line_text, report_text}
 use Rattle.session_lines.specs.Session.{IsSession, session_of_text}
 use Rattle.session_lines.specs.Words.{bad_line, many_line}
@@ -7,6 +8,7 @@ use Rattle.session_lines.specs.declared.session.Session.{Session}
 use Rattle.session_lines.specs.declared.fault.DecodeFault.{DecodeFault}
 use Rattle.session_lines.specs.declared.fault.DecodeFault.TheVariants.{Lines, Bad, OutOfMemory}
 use Rattle.session_replay.specs.Traffic.{WasRead, WasTaken, session_limit}
+use Rattle.session_writer.specs.Migrated.{IsMigrated, migrated_text}
 use Rattle.session_replay.specs.Making.{Makes}
 use Rattle.session_replay.specs.Queries.{AreReplies, IsReport, Reply, end_of, reply_line, report_of, report_with}
 use Rattle.command_words.specs.declared.command.Command.{Command}
@@ -20,23 +22,34 @@ use Rattle.session_replay.specs.declared.top.Prepared.TheVariants as prepared
 
 -- the input is a session, and the output is its report with some replies to its queries that this number of workers may give
 abbrev pub Replays : List ℕ → List ℕ → ℕ → Type 0
-Replays input output workers = (s : Session) × (session_of_text input ≡ Ok s)
+Replays input output workers = (s : Session) × (session_of_text false input ≡ Ok s)
     × ((ps : List Reply) × AreReplies s workers ps
     × (output ≡ report_text (report_with s (map (reply_line (end_of s)) ps))))
 
 -- the input is a session, and the output is the line with what is counted of it
 abbrev pub Checks : List ℕ → List ℕ → Type 0
-Checks input output = (s : Session) × (session_of_text input ≡ Ok s) × (output ≡ line_text (session_counts s))
+Checks input output = (s : Session) × (session_of_text false input ≡ Ok s) × (output ≡ line_text (session_counts s))
+
+-- the task writes a session as one of version 2, which no session of version 1 with a CR can be
+abbrev pub migrates : Task → Bool
+migrates (task.Replay workers) = false
+migrates task.Check = false
+migrates task.Migrate = true
+
+-- the input is a session that can be one of version 2, and the output is it: the text of its values, which decodes to it
+abbrev pub Migrates : List ℕ → List ℕ → Type 0
+Migrates input output = (s : Session) × (session_of_text true input ≡ Ok s) × IsMigrated s input output
 
 -- the output is what the task makes of the input
 abbrev pub Does : Task → List ℕ → List ℕ → Type 0
 Does (task.Replay workers) input output = Replays input output workers
 Does task.Check input output = Checks input output
+Does task.Migrate input output = Migrates input output
 
 -- ---- the lines without a report
 
 abbrev pub usage_line : List ℕ
-usage_line = codes "usage: zedbuf replay [--workers N] | check | make --seed N --replicas N --edits N\n"
+usage_line = codes "usage: zedbuf replay [--workers N] | check | make --seed N --replicas N --edits N | migrate\n"
 
 abbrev pub large_line : List ℕ
 large_line = codes "too large: bytes\n"
@@ -49,33 +62,34 @@ refusal (Lines n) = (status.TooLarge, many_line)
 refusal (Bad n w) = (status.Session, bad_line n w)
 refusal OutOfMemory = (status.Memory, codes "")
 
--- what a task writes for a session
-abbrev pub written_for : Task → Session → List ℕ
-written_for (task.Replay workers) s = report_text (report_of s)
-written_for task.Check s = line_text (session_counts s)
+-- what a task writes for the session that an input is
+abbrev pub written_for : Task → List ℕ → Session → List ℕ
+written_for (task.Replay workers) input s = report_text (report_of s)
+written_for task.Check input s = line_text (session_counts s)
+written_for task.Migrate input s = migrated_text s (lines_of input)
 
-abbrev pub response_with : Task → Result Session DecodeFault → Status × List ℕ
-response_with c (Ok s) = (status.Done, written_for c s)
-response_with c (Err e) = refusal e
+abbrev pub response_with : Task → List ℕ → Result Session DecodeFault → Status × List ℕ
+response_with c input (Ok s) = (status.Done, written_for c input s)
+response_with c input (Err e) = refusal e
 
 unfoldable pub response_of : Task → List ℕ → Status × List ℕ
 response_of c input =
     if nat_lt session_limit (length input)
     then (status.TooLarge, large_line)
-    else response_with c (session_of_text input)
+    else response_with c input (session_of_text (migrates c) input)
 
 -- ---- what may be written for an input
 
 -- the input is no session, and the output is the line that says why
-abbrev pub Refuses : List ℕ → List ℕ → Type 0
-Refuses input output =
+abbrev pub Refuses : Task → List ℕ → List ℕ → Type 0
+Refuses c input output =
     ((session_limit < length input) × (output ≡ large_line))
-    ⊎ ((length input ≤ session_limit) × ((e : DecodeFault) × (session_of_text input ≡ Err e)
+    ⊎ ((length input ≤ session_limit) × ((e : DecodeFault) × (session_of_text (migrates c) input ≡ Err e)
     × (output ≡ (refusal e).1)))
 
 -- the output is one for the input: what the task makes of a session, or the line that refuses what is none
 abbrev pub IsOutput : Task → List ℕ → List ℕ → Type 0
-IsOutput c input output = ((length input ≤ session_limit) × Does c input output) ⊎ Refuses input output
+IsOutput c input output = ((length input ≤ session_limit) × Does c input output) ⊎ Refuses c input output
 
 -- ---- what a command ends with
 
@@ -89,20 +103,25 @@ Ends (command.Make seed n edits) left left_after given given_after ends ends_aft
 
 -- ---- for private clauses
 
--- what a task may write for a session
-abbrev pub Writes : Task → Session → List ℕ → Type 0
-Writes (task.Replay workers) s output = IsReport s workers output
-Writes task.Check s output = output ≡ line_text (session_counts s)
+-- what a task may write for the session that an input is
+abbrev pub Writes : Task → List ℕ → Session → List ℕ → Type 0
+Writes (task.Replay workers) input s output = IsReport s workers output
+Writes task.Check input s output = output ≡ line_text (session_counts s)
+Writes task.Migrate input s output = IsMigrated s input output
 
 -- the input is a session, and the text is what the task may write for it
 abbrev pub IsWork : Task → List ℕ → Status → List ℕ → Type 0
 IsWork c input st text =
     (st ≡ status.Done) × (length input ≤ session_limit)
-    × ((s : Session) × (session_of_text input ≡ Ok s) × Writes c s text)
+    × ((s : Session) × (session_of_text (migrates c) input ≡ Ok s) × Writes c input s text)
 
--- the status and the text respond to an input: the plain response, or what workers make of a session
+-- the input is too long, or no session
+abbrev pub IsNone : Task → List ℕ → Type 0
+IsNone c input = (session_limit < length input) ⊎ ((e : DecodeFault) × (session_of_text (migrates c) input ≡ Err e))
+
+-- the status and the text respond to an input: what the task may write for its session, or the plain response where it is none
 abbrev pub IsResponse : Task → List ℕ → Status → List ℕ → Type 0
-IsResponse c input st text = IsWork c input st text ⊎ (response_of c input ≡ (st, text))
+IsResponse c input st text = IsWork c input st text ⊎ (IsNone c input × (response_of c input ≡ (st, text)))
 
 -- the status and the text that respond to what a source had left
 pub record RespondsToSource (c : Task) (left left_after : Option (List ℕ))
@@ -117,7 +136,7 @@ abbrev pub IsPrepared : Task → List ℕ → Prepared → Type 0
 IsPrepared c input (prepared.Response st text) = IsResponse c input st text.items
 IsPrepared c input (prepared.Beside workers s) =
     (c ≡ task.Replay workers) × (1 ≤ workers) × (length input ≤ session_limit)
-    × (session_of_text input ≡ Ok s) × IsSession session_limit s
+    × (session_of_text (migrates c) input ≡ Ok s) × IsSession session_limit s
 
 -- workers may answer what is left to them
 abbrev pub IsReady : Prepared → Type 0

@@ -120,6 +120,15 @@ abbrev pub after_give : Option Operation → BufferState → BufferState
 after_give None b = b
 after_give (Some op) b = after_take b op
 
+-- ---- a buffer is opened with what it has applied; what waits or was refused there is gone
+
+-- how many operations a history has, the base not counted
+abbrev pub applied_count : List Operation → ℕ
+applied_count h = length h - 1
+
+abbrev pub after_reopen : BufferState → BufferState
+after_reopen b = record b { waiting = []; refused = [] }
+
 -- ---- a text is shown, with its bytes, its line feeds, the bytes after the last of them, and its rows
 
 abbrev pub text_report : BufferState → Report
@@ -161,6 +170,7 @@ events (line.Since r name) s = reports_at (since_reports name r (under name s.ma
 events (line.Find r needle) s = []
 events (line.Point r o) s = []
 events (line.Offset r row column) s = []
+events (line.Reopen r) s = reports_at (λ b. report.Reopen r (applied_count b.history) ∷ []) (buffer_of r s.buffers)
 
 -- the session with these buffers after one more operation line, and with what stands under its number
 abbrev pub with_operation_line : List BufferState → Option Operation → State → State
@@ -188,6 +198,7 @@ step (line.Since r name) s = s
 step (line.Find r needle) s = s
 step (line.Point r o) s = s
 step (line.Offset r row column) s = s
+step (line.Reopen r) s = record s { buffers = with_buffer r after_reopen s.buffers }
 
 -- ---- all lines
 
@@ -202,10 +213,6 @@ after_all (l ∷ ls) s = after_all ls (step l s)
 -- an operation that replica r refused while it settled
 abbrev pub refused_report : ℕ → Lamport × OpFault → Report
 refused_report r e = report.Refused r e.0 e.1
-
--- how many operations a history has, the base not counted
-abbrev pub applied_count : List Operation → ℕ
-applied_count h = length h - 1
 
 -- what a replica counts at the end; the base is no applied operation
 abbrev pub counts_report : BufferState → Report

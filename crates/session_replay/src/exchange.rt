@@ -8,7 +8,7 @@ ghost use Rattle.session_lines.specs.Report.{report_text};
 ghost use Rattle.text_buffer.specs.Buffer.{base_under};
 ghost use Rattle.session_replay.specs.Exchange.{applied_at, applied_len, is_named, named_made};
 ghost use Rattle.session_replay.specs.Traffic.{session_limit};
-ghost use Rattle.session_replay.specs.Work.{after_give, after_outcome, buffer_of, edit_outcome, first_buffer, first_unnamed, give_answer, operation_of, outcome_reports, reports_at, stamps_under, undo_outcome, with_buffer};
+ghost use Rattle.session_replay.specs.Work.{after_give, after_outcome, after_reopen, applied_count, buffer_of, edit_outcome, first_buffer, first_unnamed, give_answer, operation_of, outcome_reports, reports_at, stamps_under, undo_outcome, with_buffer};
 
 use crate::OutOfMemory;
 use crate::replica::Replica;
@@ -250,6 +250,18 @@ impl Exchange {
     {
         let operation = copy_of(alloc, self.operation_of(number))?;
         self.replicas.give(id, operation)
+    }
+
+    /// Opens the buffer of the replica with that id, if there is one, with copies of what it has applied. Returns how many operations
+    /// that are, the base not counted.
+    pub fn reopen(&mut self, alloc: Global, id: u16) -> Result<Option<u64>, OutOfMemory>
+        ensures count { IfOk result (λ count. count
+            ≡ option_map (λ b. applied_count b.history) (buffer_of id self.old.buffers)) }
+        ensures buffers { OnOk result (self.new.buffers
+            ≡ with_buffer id after_reopen self.old.buffers) }
+        ensures operations { self.new.operations ≡ self.old.operations }
+    {
+        self.replicas.reopen(alloc, id)
     }
 
     /// How many operation lines made an operation.

@@ -21,7 +21,9 @@ mod top;
 mod traffic;
 
 pub use counts::ReadCounts;
-pub use laws::{plain_with_workers, plain_without_queries, plain_without_workers};
+pub use laws::{
+    migrated_reports_alike, plain_with_workers, plain_without_queries, plain_without_workers,
+};
 pub use memory::{MemSink, MemSource, SureSink, SureSource};
 pub use op_model::OutOfMemory;
 pub use outside::{Failed, Sink, Source};

@@ -227,6 +227,22 @@ impl Progress {
         Ok(())
     }
 
+    /// Works a line that opens a replica's buffer.
+    fn work_reopen(&mut self, alloc: Global, id: u16) -> Result<(), OutOfMemory>
+        ensures report { OnOk result (self.new.report.items
+            ≡ self.old.report.items
+            ++ report_text (events (SessionLine.Reopen id) (state_of self.old))) }
+        ensures state { OnOk result (state_of self.new
+            ≡ step (SessionLine.Reopen id) (state_of self.old)) }
+    {
+        let Some(count) = self.exchange.reopen(alloc, id)? else {
+            return Ok(());
+        };
+        let report = Report::Reopen { replica: id, count };
+        write_line(alloc, &mut self.report, &report)?;
+        Ok(())
+    }
+
     /// Works a line. An operation or a name in it is moved to where it is kept or reported.
     pub fn work_line(&mut self, alloc: Global, line: SessionLine) -> Result<(), OutOfMemory>
         ensures report { OnOk result (self.new.report.items
@@ -286,6 +302,7 @@ impl Progress {
             SessionLine::Find { .. } => {}
             SessionLine::Point { .. } => {}
             SessionLine::Offset { .. } => {}
+            SessionLine::Reopen { replica } => self.work_reopen(alloc, *replica)?,
         }
         Ok(())
     }

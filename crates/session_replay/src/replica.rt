@@ -13,15 +13,19 @@ ghost use Rattle.text_buffer.specs.Outcomes.{pair_of};
 ghost use Rattle.session_replay.specs.Traffic.{session_limit};
 ghost use Rattle.session_lines.specs.declared.report.Report.TheVariants.{Unnamed, UndoRefused};
 ghost use Rattle.session_replay.specs.Exchange.{undo_outcome_of};
-ghost use Rattle.session_replay.specs.Work.{after_give, after_outcome, at_end, counts_report, edit_outcome, give_answer, first_buffer, outcome_reports, refused_report, settled_reports, text_report};
+ghost use Rattle.session_replay.specs.Work.{after_give, after_outcome, after_reopen, applied_count, at_end, counts_report, edit_outcome, give_answer, first_buffer, outcome_reports, refused_report, settled_reports, text_report};
 
 use crate::OutOfMemory;
+use applied_ops::Applied;
 use lamport_clock::Lamport;
 use op_model::{EditFault, Limits, OpFault, Operation, Piece, Pieces, Text, UndoFault};
 use session_lines::{GiveAnswer, Report, TextHead, write_line, write_text};
 use std::alloc::Global;
 use std::marker::Model;
-use text_buffer::{Base, Buffer, NewFault, Refused, Snapshot, Took};
+use sum_tree::SumTree;
+use text_buffer::{
+    Base, Buffer, NewFault, OpenFault, Refused, Snapshot, Took, applied_operations_open,
+};
 
 /// A replica, seen as its buffer.
 #[derive(Drop)]
@@ -187,6 +191,19 @@ impl Replica {
         }
     }
 
+    /// Opens its buffer with copies of what it has applied, which share the texts. What waits there or was refused is gone. Returns how
+    /// many operations it has applied, the base not counted. Linear in what it has applied.
+    pub fn reopen(&mut self, alloc: Global) -> Result<u64, OutOfMemory>
+        ensures count { IfOk result (λ count. count ≡ applied_count self.old.history) }
+        ensures after { OnOk result (self.new ≡ after_reopen self.old) }
+        ensures id { self.new.replica ≡ self.old.replica }
+        ensures grows { IsFront self.old.history self.new.history }
+    {
+        let count = self.applied_len().saturating_sub(1);
+        self.buffer = reopened_buffer(alloc, self.id, &self.buffer)?;
+        Ok(count)
+    }
+
     /// How many operations it has applied, the base among them.
     pub fn applied_len(&self) -> u64
         ensures { result ≡ length self.now.history }
@@ -291,6 +308,36 @@ impl Replica {
         write_refused(alloc, replica, self.buffer.refused(), out)?;
         self.write_text(alloc, TextHead::FinalText { replica }, out)?;
         Ok(())
+    }
+}
+
+// Copies of operations that are applied, in their order. They share the texts.
+fn copies(alloc: Global, applied: &SumTree<Applied>) -> Result<Vec<Operation>, OutOfMemory>
+    ensures { IfOk result (λ v. v.items ≡ applied.now.items) }
+{
+    let mut copies = Vec::with_capacity(alloc, applied.len() as usize)?;
+    for i in 0..applied.len() {
+        match applied.get(i) {
+            Some(applied) => copies.push(applied.op().copy(alloc)?)?,
+            None => unreachable!(),
+        }
+    }
+    Ok(copies)
+}
+
+// The buffer of the replica with that id, opened with copies of what it has applied.
+fn reopened_buffer(alloc: Global, id: u16, buffer: &Buffer) -> Result<Buffer, OutOfMemory>
+    requires { buffer.now.replica ≡ id }
+    ensures { IfOk result (λ b. b ≡ after_reopen buffer.now) }
+{
+    buffer.known();
+    applied_operations_open(buffer);
+    let operations = copies(alloc, buffer.applied())?;
+    match Buffer::open(alloc, id, operations, buffer.limits(), buffer.endings()) {
+        Ok(buffer) => Ok(buffer),
+        Err(OpenFault::OutOfMemory) => Err(OutOfMemory),
+        // what a buffer has applied opens under its limits and its rule
+        Err(_) => unreachable!(),
     }
 }
 

@@ -11,7 +11,7 @@ ghost use Rattle.text_buffer.specs.Buffer.{base_fault, base_under};
 ghost use Rattle.text_buffer.specs.declared.faults.NewFault.{NewFault};
 ghost use Rattle.session_replay.specs.Exchange.{undo_outcome_of};
 ghost use Rattle.session_replay.specs.Later.{AllGrow};
-ghost use Rattle.session_replay.specs.Work.{after_give, after_outcome, buffer_of, edit_outcome, give_answer, first_buffer, outcome_reports, reports_at, with_buffer};
+ghost use Rattle.session_replay.specs.Work.{after_give, after_outcome, after_reopen, applied_count, buffer_of, edit_outcome, give_answer, first_buffer, outcome_reports, reports_at, with_buffer};
 
 use crate::OutOfMemory;
 use crate::replica::Replica;
@@ -162,6 +162,20 @@ impl Replicas {
             return Ok(None);
         };
         Ok(Some(self.list[index].give(operation)?))
+    }
+
+    /// Opens the buffer of the replica with that id, if there is one, with copies of what it has applied. Returns how many operations
+    /// that are, the base not counted.
+    pub fn reopen(&mut self, alloc: Global, id: u16) -> Result<Option<u64>, OutOfMemory>
+        ensures count { IfOk result (λ count. count
+            ≡ option_map (λ b. applied_count b.history) (buffer_of id self.old)) }
+        ensures after { OnOk result (self.new ≡ with_buffer id after_reopen self.old) }
+        ensures grows { AllGrow self.old self.new }
+    {
+        let Some(index) = self.index_of(id) else {
+            return Ok(None);
+        };
+        Ok(Some(self.list[index].reopen(alloc)?))
     }
 }
 

@@ -8,6 +8,7 @@ ghost use Rattle.session_lines.specs.Session.{session_of_text, lines_limit};
 ghost use Rattle.session_lines.specs.declared.session.Session.{Session};
 ghost use Rattle.session_lines.specs.declared.fault.Word.{Word};
 ghost use Rattle.session_lines.specs.declared.fault.DecodeFault.{DecodeFault};
+ghost use Rattle.session_replay.specs.Replay.{migrates};
 ghost use Rattle.session_replay.specs.Traffic.{session_limit};
 
 use crate::memory::{SureSink, SureSource};
@@ -32,17 +33,19 @@ pub fn run_on_bytes<R: Threads + Wait + Sync, G: Gate>(
     // A command and a session within the limits, or a command that reads none.
     ensures completes { (task : Task) → command_of words.now ≡ Some (Command.Read task)
         → length bytes.items ≤ session_limit
-        → (s : Session) → session_of_text bytes.items ≡ Ok s
+        → (s : Session) → session_of_text (migrates task) bytes.items ≡ Ok s
         → (result ≡ Status.Done) ⊎ (result ≡ Status.Memory) }
     ensures made { (seed n edits : ℕ) → command_of words.now ≡ Some (Command.Make seed n edits)
         → (result ≡ Status.Done) ⊎ (result ≡ Status.Memory) }
     // A command, and bytes that are no session or too many.
     ensures refuses { (task : Task) → command_of words.now ≡ Some (Command.Read task)
         → (session_limit < length bytes.items)
-        ⊎ ((e : DecodeFault) × (session_of_text bytes.items ≡ Err e))
+        ⊎ ((e : DecodeFault) × (session_of_text (migrates task) bytes.items ≡ Err e))
         → (result ≡ Status.Session) ⊎ ((result ≡ Status.TooLarge) ⊎ (result ≡ Status.Memory)) }
     ensures session { result ≡ Status.Session → (length bytes.items ≤ session_limit)
-        × ((n : ℕ) × (w : Word) × (session_of_text bytes.items ≡ Err (DecodeFault.Bad n w))) }
+        × ((task : Task) × (command_of words.now ≡ Some (Command.Read task))
+        × ((n : ℕ) × (w : Word)
+        × (session_of_text (migrates task) bytes.items ≡ Err (DecodeFault.Bad n w)))) }
     ensures large { result ≡ Status.TooLarge → (session_limit < length bytes.items)
         ⊎ (lines_limit < length (lines_of bytes.items)) }
 {

@@ -12,7 +12,7 @@ ghost use Rattle.session_lines.specs.Words.{bad_line, many_line};
 ghost use Rattle.session_lines.specs.Report.{session_counts, line_text};
 ghost use Rattle.session_replay.specs.Making.{Makes};
 ghost use Rattle.session_replay.specs.Queries.{IsReport};
-ghost use Rattle.session_replay.specs.Replay.{Does, Ends, IsOutput, IsPrepared, IsReady, IsWritten, PreparesSource, RespondsToSource, Writes, large_line, usage_line};
+ghost use Rattle.session_replay.specs.Replay.{Does, Ends, IsOutput, IsPrepared, IsReady, IsWritten, PreparesSource, RespondsToSource, Writes, large_line, migrates, refusal, usage_line};
 ghost use Rattle.session_lines.specs.declared.session.Session.{Session};
 ghost use Rattle.session_lines.specs.declared.fault.Word.{Word};
 ghost use Rattle.session_lines.specs.declared.fault.DecodeFault.{DecodeFault};
@@ -26,6 +26,7 @@ use crate::traffic::{InputFault, read_all, write_all};
 use command_words::{Command, Task, command_of};
 use query_workers::Gate;
 use session_lines::{DecodeFault, Report, Session, Word, decode, write_line};
+use session_writer::migrate;
 use std::alloc::Global;
 use std::sync::Wait;
 use std::thread::Threads;
@@ -50,7 +51,7 @@ pub enum Status {
 }
 
 const USAGE: &str =
-    "usage: zedbuf replay [--workers N] | check | make --seed N --replicas N --edits N\n";
+    "usage: zedbuf replay [--workers N] | check | make --seed N --replicas N --edits N | migrate\n";
 
 fn bytes_of(alloc: Global, text: &str) -> Result<Vec<u8>, OutOfMemory>
     ensures { IfOk result (λ v. v.items ≡ text.now) }
@@ -93,23 +94,26 @@ fn plain_report(alloc: Global, workers: u32, session: Session) -> Result<Vec<u8>
     report(alloc, session)
 }
 
-/// What the task writes for a session where nobody waits.
+/// What a task that does not migrate writes for a session where nobody waits.
 fn plain_output(alloc: Global, task: Task, session: Session) -> Result<Vec<u8>, OutOfMemory>
-    requires { IsSession session_limit session }
-    ensures { IfOk result (λ v. Writes task session v.items) }
+    requires task { migrates task ≡ false }
+    requires session { IsSession session_limit session }
+    ensures { IfOk result (λ v. (input : List ℕ) → Writes task input session v.items) }
 {
     match task {
         Task::Replay { workers } => plain_report(alloc, workers, session),
         Task::Check => check(alloc, &session),
+        Task::Migrate => unreachable!(),
     }
 }
 
 /// A response to a session.
 fn respond_plainly(alloc: Global, task: Task, session: Session) -> Result<Prepared, OutOfMemory>
-    requires { IsSession session_limit session }
+    requires task { migrates task ≡ false }
+    requires session { IsSession session_limit session }
     ensures ready { IfOk result IsReady }
     ensures prepared { IfOk result (λ p. (input : List ℕ) → length input ≤ session_limit
-        → session_of_text input ≡ Ok session → IsPrepared task input p) }
+        → session_of_text (migrates task) input ≡ Ok session → IsPrepared task input p) }
 {
     let text = plain_output(alloc, task, session)?;
     Ok(Prepared::Response {
@@ -120,10 +124,11 @@ fn respond_plainly(alloc: Global, task: Task, session: Session) -> Result<Prepar
 
 /// What a session comes to where nobody waits.
 fn prepare_session(alloc: Global, task: Task, session: Session) -> Result<Prepared, OutOfMemory>
-    requires { IsSession session_limit session }
+    requires task { migrates task ≡ false }
+    requires session { IsSession session_limit session }
     ensures ready { IfOk result IsReady }
     ensures prepared { IfOk result (λ p. (input : List ℕ) → length input ≤ session_limit
-        → session_of_text input ≡ Ok session → IsPrepared task input p) }
+        → session_of_text (migrates task) input ≡ Ok session → IsPrepared task input p) }
 {
     match task {
         Task::Replay { workers } if workers > 0 => Ok(Prepared::Beside { workers, session }),
@@ -131,25 +136,73 @@ fn prepare_session(alloc: Global, task: Task, session: Session) -> Result<Prepar
     }
 }
 
-/// What an input comes to where nobody waits. The input is dropped once it is decoded.
-#[tactic(auto, unfolding(crate::specs::Replay::response_of))]
+/// The status and the line for an input that is no session.
+fn refusal(alloc: Global, fault: DecodeFault) -> Result<(Status, Vec<u8>), OutOfMemory>
+    ensures { IfOk result (λ p. refusal fault ≡ (p.0, p.1.items)) }
+{
+    match fault {
+        DecodeFault::Lines(_) => Ok((Status::TooLarge, bytes_of(alloc, "too large: lines\n")?)),
+        DecodeFault::Bad { line, word } => {
+            let text = bad_line(alloc, line, word)?;
+            Ok((Status::Session, bytes_of(alloc, text.as_str())?))
+        }
+        DecodeFault::OutOfMemory => Err(OutOfMemory),
+    }
+}
+
+/// A response to an input that is no session.
+fn respond_to_fault(alloc: Global, fault: DecodeFault) -> Result<Prepared, OutOfMemory>
+    ensures ready { IfOk result IsReady }
+    ensures prepared { IfOk result (λ p. (task : Task) → (input : List ℕ)
+        → length input ≤ session_limit → session_of_text (migrates task) input ≡ Err fault
+        → IsPrepared task input p) }
+{
+    let (status, text) = refusal(alloc, fault)?;
+    Ok(Prepared::Response { status, text })
+}
+
+/// A response to an input that is to be written as a session of version 2.
+fn prepare_migration(alloc: Global, input: &[u8]) -> Result<Prepared, OutOfMemory>
+    requires { length input.now ≤ session_limit }
+    ensures ready { IfOk result IsReady }
+    ensures prepared { IfOk result (λ p. IsPrepared Task.Migrate input.now p) }
+{
+    match migrate(alloc, input) {
+        Ok(text) => Ok(Prepared::Response {
+            status: Status::Done,
+            text,
+        }),
+        Err(DecodeFault::OutOfMemory) => Err(OutOfMemory),
+        Err(fault) => respond_to_fault(alloc, fault),
+    }
+}
+
+/// What an input comes to that is not migrated. The input is dropped once it is decoded.
+fn prepare_decoded(alloc: Global, task: Task, input: Vec<u8>) -> Result<Prepared, OutOfMemory>
+    requires task { migrates task ≡ false }
+    requires input { length input.items ≤ session_limit }
+    ensures ready { IfOk result IsReady }
+    ensures prepared { IfOk result (λ p. IsPrepared task input.items p) }
+{
+    let decoded = decode(alloc, input.as_slice(), false);
+    drop(input);
+    match decoded {
+        Ok(session) => prepare_session(alloc, task, session),
+        Err(DecodeFault::OutOfMemory) => Err(OutOfMemory),
+        Err(fault) => respond_to_fault(alloc, fault),
+    }
+}
+
+/// What an input comes to where nobody waits.
 fn prepare(alloc: Global, task: Task, input: Vec<u8>) -> Result<Prepared, OutOfMemory>
     requires { length input.items ≤ session_limit }
     ensures ready { IfOk result IsReady }
     ensures prepared { IfOk result (λ p. IsPrepared task input.items p) }
 {
-    let decoded = decode(alloc, input.as_slice());
-    drop(input);
-    let (status, text) = match decoded {
-        Ok(session) => return prepare_session(alloc, task, session),
-        Err(DecodeFault::Lines(_)) => (Status::TooLarge, bytes_of(alloc, "too large: lines\n")?),
-        Err(DecodeFault::Bad { line, word }) => {
-            let text = bad_line(alloc, line, word)?;
-            (Status::Session, bytes_of(alloc, text.as_str())?)
-        }
-        Err(DecodeFault::OutOfMemory) => return Err(OutOfMemory),
-    };
-    Ok(Prepared::Response { status, text })
+    match task {
+        Task::Migrate => prepare_migration(alloc, input.as_slice()),
+        Task::Replay { .. } | Task::Check => prepare_decoded(alloc, task, input),
+    }
 }
 
 /// What is to be written, with the status. Only here do workers wait.
@@ -243,7 +296,8 @@ fn work<R: Threads + Wait + Sync, I: Source, O: Sink, G: Gate>(
         × WasRead (I.left src.old) (I.left src.new) (I.given src.old) (I.given src.new)
         (I.ends src.old) (I.ends src.new) input
         × (length input ≤ session_limit)
-        × ((n : ℕ) × (w : Word) × (session_of_text input ≡ Err (DecodeFault.Bad n w))
+        × ((n : ℕ) × (w : Word)
+        × (session_of_text (migrates task) input ≡ Err (DecodeFault.Bad n w))
         × Appends (O.written out.old) (O.written out.new) (bad_line n w)) }
     ensures ended { (result ≡ Status.Done) ⊎ (result ≡ Status.Session)
         → Rose (I.ends src.old) (I.ends src.new) }
@@ -269,12 +323,12 @@ fn work<R: Threads + Wait + Sync, I: Source, O: Sink, G: Gate>(
     ensures completes { (Rose (I.faults src.old) (I.faults src.new) → ⊥)
         → (Rose (O.faults out.old) (O.faults out.new) → ⊥)
         → IfSome (I.left src.old) (λ input. length input ≤ session_limit
-        → (s : Session) → session_of_text input ≡ Ok s
+        → (s : Session) → session_of_text (migrates task) input ≡ Ok s
         → (result ≡ Status.Done) ⊎ (result ≡ Status.Memory)) }
     ensures refuses { (Rose (I.faults src.old) (I.faults src.new) → ⊥)
         → (Rose (O.faults out.old) (O.faults out.new) → ⊥)
         → IfSome (I.left src.old) (λ input. (session_limit < length input)
-        ⊎ ((e : DecodeFault) × (session_of_text input ≡ Err e))
+        ⊎ ((e : DecodeFault) × (session_of_text (migrates task) input ≡ Err e))
         → (result ≡ Status.Session) ⊎ ((result ≡ Status.TooLarge) ⊎ (result ≡ Status.Memory))) }
 {
     match respond_to_source(rt, alloc, gate, task, src) {
@@ -308,10 +362,10 @@ fn make_session<O: Sink>(alloc: Global, seed: u32, replicas: u16, edits: u32, ou
 }
 
 /// Runs the program: reads the words, then the source to its end or to one byte past the limit of 67,108,864 bytes, decodes the
-/// session, and writes its report, or for `check` the line with its counts. `make` reads no source: it makes a session, works it and
+/// session, and writes its report, for `check` the line with its counts, or for `migrate` the session as one of version 2. `make` reads no source: it makes a session, works it and
 /// writes its summary. Only a replay with workers may wait, for the gate and for its threads.
 ///
-/// The report is held whole, the input until it is decoded. An edit or undo, made or taken, costs a few descents for each of its
+/// The output is held whole, the input until it is decoded, or for `migrate` until the output is made. An edit or undo, made or taken, costs a few descents for each of its
 /// pieces and for each run of bytes that it shows or hides, and a line that shows a text as much as the text. A `give` shares the
 /// operation that it names with the buffer. A query is answered on a snapshot, for which nothing is copied: a `find` goes over the text
 /// once, and keeps 8 bytes for each place; a `point` or an `offset` goes down the rope.
@@ -347,12 +401,15 @@ pub fn run<R: Threads + Wait + Sync, I: Source, O: Sink, G: Gate>(
         × ((result ≡ Status.Done) ⊎ ((result ≡ Status.Memory) ⊎ (result ≡ Status.WriteFault))) }
 
     // Session: the input was read to its end, and has a first bad line.
-    ensures session { result ≡ Status.Session → (input : List ℕ)
+    ensures session { result ≡ Status.Session → (task : Task)
+        × (command_of words.now ≡ Some (Command.Read task))
+        × ((input : List ℕ)
         × WasRead (I.left src.old) (I.left src.new) (I.given src.old) (I.given src.new)
         (I.ends src.old) (I.ends src.new) input
         × (length input ≤ session_limit)
-        × ((n : ℕ) × (w : Word) × (session_of_text input ≡ Err (DecodeFault.Bad n w))
-        × Appends (O.written out.old) (O.written out.new) (bad_line n w)) }
+        × ((n : ℕ) × (w : Word)
+        × (session_of_text (migrates task) input ≡ Err (DecodeFault.Bad n w))
+        × Appends (O.written out.old) (O.written out.new) (bad_line n w))) }
     ensures ended { (result ≡ Status.Done) ⊎ (result ≡ Status.Session)
         → (task : Task) → command_of words.now ≡ Some (Command.Read task)
         → Rose (I.ends src.old) (I.ends src.new) }
@@ -391,18 +448,18 @@ pub fn run<R: Threads + Wait + Sync, I: Source, O: Sink, G: Gate>(
     // Memory is free, and nothing was written.
     ensures memory { result ≡ Status.Memory → out.new ≡ out.old }
 
-    // Where no fault was counted, a session within the limit is worked or checked, and without one the input is refused.
+    // Where no fault was counted, a session within the limit is worked, checked or migrated, and without one the input is refused.
     ensures completes { (Rose (I.faults src.old) (I.faults src.new) → ⊥)
         → (Rose (O.faults out.old) (O.faults out.new) → ⊥)
         → (task : Task) → command_of words.now ≡ Some (Command.Read task)
         → IfSome (I.left src.old) (λ input. length input ≤ session_limit
-        → (s : Session) → session_of_text input ≡ Ok s
+        → (s : Session) → session_of_text (migrates task) input ≡ Ok s
         → (result ≡ Status.Done) ⊎ (result ≡ Status.Memory)) }
     ensures refuses { (Rose (I.faults src.old) (I.faults src.new) → ⊥)
         → (Rose (O.faults out.old) (O.faults out.new) → ⊥)
         → (task : Task) → command_of words.now ≡ Some (Command.Read task)
         → IfSome (I.left src.old) (λ input. (session_limit < length input)
-        ⊎ ((e : DecodeFault) × (session_of_text input ≡ Err e))
+        ⊎ ((e : DecodeFault) × (session_of_text (migrates task) input ≡ Err e))
         → (result ≡ Status.Session) ⊎ ((result ≡ Status.TooLarge) ⊎ (result ≡ Status.Memory))) }
 {
     let command = match command_of(alloc, words) {

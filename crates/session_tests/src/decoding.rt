@@ -41,6 +41,7 @@ fn name_of(line: &SessionLine) -> &'static str {
         SessionLine::Find { .. } => "find",
         SessionLine::Point { .. } => "point",
         SessionLine::Offset { .. } => "offset",
+        SessionLine::Reopen { .. } => "reopen",
     }
 }
 
@@ -125,7 +126,7 @@ fn have_words(alloc: Global, mut lines: LineQueue, words: &[&str]) -> Result<boo
 
 // Whether the input is a session with these replicas and lines of these words.
 fn reads(alloc: Global, input: &str, ids: &[u16], words: &[&str]) -> Result<bool, OutOfMemory> {
-    let Ok(session) = decode(alloc, input.as_bytes()) else {
+    let Ok(session) = decode(alloc, input.as_bytes(), false) else {
         return Ok(false);
     };
     let is_headed = session.version == 1 && session.replicas.as_slice() == ids;
@@ -146,7 +147,7 @@ const VERSIONS: &[(&str, &[(u16, u32)])] = &[
 // Whether the version of an operation line is read as these entries.
 fn reads_version(alloc: Global, version: &str, want: &[(u16, u32)]) -> Result<bool, OutOfMemory> {
     let input = format!(in alloc; "[\"zedbuf\",1,\"\",[1]]\n[\"op\",[9,1],{version},[]]")?;
-    let Ok(session) = decode(alloc, input.as_bytes()) else {
+    let Ok(session) = decode(alloc, input.as_bytes(), false) else {
         return Ok(false);
     };
     let Some((line, rest)) = session.lines.into_queue().split_first(alloc)? else {
@@ -208,7 +209,7 @@ fn refuses_another(alloc: Global, text: &str) -> Result<bool, OutOfMemory> {
 }
 
 fn is_refused(alloc: Global, input: &[u8], want: DecodeFault) -> bool {
-    decode(alloc, input).err() == Some(want)
+    decode(alloc, input, false).err() == Some(want)
 }
 
 // Inputs with a byte that is no text, and inputs of many lines.

@@ -41,6 +41,14 @@ final 2: \"ab\"
         output: "session ok: 1 lines, 2 replicas, 0 operations, 0 queries\n",
         calls: &[(1, 1, 25, 57), (7, 1, 5, 9), (8, 1, 4, 8)],
     },
+    Row {
+        name: "a session that is migrated",
+        words: "migrate",
+        input: HEADER,
+        status: 0,
+        output: "[\"zedbuf\",2,\"ab\",[1,2]]\n",
+        calls: &[(1, 1, 25, 24), (7, 1, 5, 4), (8, 1, 4, 3)],
+    },
     // No input is read.
     Row {
         name: "a session that is made",
@@ -58,8 +66,8 @@ texts equal
         words: "jump",
         input: HEADER,
         status: 2,
-        output: "usage: zedbuf replay [--workers N] | check | make --seed N --replicas N --edits N\n",
-        calls: &[(1, 1, 0, 82), (7, 1, 0, 12), (8, 1, 0, 11)],
+        output: "usage: zedbuf replay [--workers N] | check | make --seed N --replicas N --edits N | migrate\n",
+        calls: &[(1, 1, 0, 92), (7, 1, 0, 14), (8, 1, 0, 12)],
     },
     Row {
         name: "an input that is no session",

@@ -1,5 +1,5 @@
 //! The cases of the files, and an input that no file of cases can hold.
-use crate::calls::{AMPLE, Ends, Passing, Run, Wanted, comes_to};
+use crate::calls::{AMPLE, Ends, Passing, Run, Wanted, comes_to, sink_after};
 use crate::case::Case;
 use crate::choices::Choices;
 use crate::tally::{Host, Tally};
@@ -58,7 +58,12 @@ fn names<R: Files + AllocGlobal + Clone + Drop>(rt: &R) -> io::Result<Vec<String
 fn test_file<R: Host + Files>(rt: &R, tally: &mut Tally, name: &str) {
     match fs::read_to_string(rt, name) {
         Ok(text) => match Case::read(text.as_str()) {
-            Some(case) => test_case(rt, tally, name, &case),
+            Some(case) => {
+                test_case(rt, tally, name, &case);
+                if name.starts_with("example_") {
+                    test_migration(rt, tally, name, &case);
+                }
+            }
             None => tally.note(rt, name, "the file is no case", false),
         },
         Err(_) => tally.note(rt, name, "the file is not read", false),
@@ -71,6 +76,41 @@ fn test_case<R: Host>(rt: &R, tally: &mut Tally, name: &str, case: &Case<'_>) {
             test_words(rt, tally, name, case, words.trim());
         }
     }
+}
+
+fn test_migration<R: Host>(rt: &R, tally: &mut Tally, name: &str, case: &Case<'_>) {
+    if case.ends().status == 0 {
+        let is_right = reports_alike(rt, rt.alloc(), case) == Ok(true);
+        tally.note(rt, name, "migrate", is_right);
+    }
+}
+
+// Whether the session as one of version 2 has the report of the case.
+fn reports_alike<R: Threads + Wait + Sync>(
+    rt: &R,
+    alloc: Global,
+    case: &Case<'_>,
+) -> Result<bool, OutOfMemory> {
+    let run = Run {
+        words: "migrate",
+        input: case.session.as_bytes(),
+        ends: AMPLE,
+    };
+    let Some(sink) = sink_after(rt, alloc, &Passing, run)? else {
+        return Ok(false);
+    };
+    let run = Run {
+        words: "replay --workers 0",
+        input: sink.bytes(),
+        ends: AMPLE,
+    };
+    comes_to(
+        rt,
+        alloc,
+        &Passing,
+        run,
+        Wanted::Bytes(case.output.as_bytes()),
+    )
 }
 
 fn test_words<R: Host>(rt: &R, tally: &mut Tally, name: &str, case: &Case<'_>, words: &str) {

@@ -116,6 +116,38 @@ replica 1: 3 bytes, 1 rows, 1 applied, 0 waiting, 0 refused
 final 1: "aba"
 "#;
 
+// A replica is reopened between a find of it and the edit after it.
+const REOPEN: &str = r#"["zedbuf",2,"ab",[1]]
+["edit",1,[[2,2,"a"]]]
+["find",1,"a"]
+["reopen",1]
+["edit",1,[[3,3,"a"]]]
+["find",1,"b"]
+["text",1]
+"#;
+
+// Its report, where the first find is answered with both edits.
+const AFTER_REOPEN: &str = r#"1: 2.1
+reopen 1: 1
+2: 3.1
+text 1: 4 bytes, end 0:4, 1 rows, "abaa"
+find 1 at 2: 0 2 3
+find 2 at 2: 1
+replica 1: 4 bytes, 1 rows, 2 applied, 0 waiting, 0 refused
+final 1: "abaa"
+"#;
+
+// Its report, where the first find is answered with the first edit.
+const BEFORE_REOPEN: &str = r#"1: 2.1
+reopen 1: 1
+2: 3.1
+text 1: 4 bytes, end 0:4, 1 rows, "abaa"
+find 1 at 1: 0 2
+find 2 at 2: 1
+replica 1: 4 bytes, 1 rows, 2 applied, 0 waiting, 0 refused
+final 1: "abaa"
+"#;
+
 const BY_ONE: &[&[Call]] = &[
     &[Hold(0, 1), Done(0, 1), Hold(0, 2), Done(0, 2)],
     &[Hold(1, 2), Hold(1, 3), Hold(1, 4), Hold(1, 5)],
@@ -125,6 +157,33 @@ const BY_TWO: &[&[Call]] = &[
     &[Hold(0, 1), Done(0, 1)],
     &[Hold(1, 2), Done(1, 2)],
     &[Hold(2, 2), Hold(2, 3), Hold(2, 4), Hold(2, 5)],
+];
+
+const REOPEN_BY_ONE: &[&[Call]] = &[
+    &[Hold(0, 1), Done(0, 1), Hold(0, 2), Done(0, 2)],
+    &[
+        Hold(1, 2),
+        Hold(1, 3),
+        Hold(1, 4),
+        Hold(1, 5),
+        Hold(1, 6),
+        Hold(1, 7),
+    ],
+];
+
+const REOPEN_BY_FOUR: &[&[Call]] = &[
+    &[Hold(0, 1), Done(0, 1)],
+    &[Hold(1, 2), Done(1, 2)],
+    &[],
+    &[],
+    &[
+        Hold(4, 2),
+        Hold(4, 3),
+        Hold(4, 4),
+        Hold(4, 5),
+        Hold(4, 6),
+        Hold(4, 7),
+    ],
 ];
 
 const CASES: &[Case] = &[
@@ -178,6 +237,40 @@ const CASES: &[Case] = &[
         rules: &[],
         session: FIND_FIRST,
         report: ON_BASE,
+        calls: &[],
+    },
+    // The worker is held until the edit after the reopening is published.
+    Case {
+        name: "a replica is reopened before its find is answered",
+        words: "replay --workers 1",
+        rules: &[(Hold(0, 1), Hold(1, 7))],
+        session: REOPEN,
+        report: AFTER_REOPEN,
+        calls: REOPEN_BY_ONE,
+    },
+    Case {
+        name: "a replica of four workers is reopened before its find is answered",
+        words: "replay --workers 4",
+        rules: &[(Hold(0, 1), Hold(4, 7))],
+        session: REOPEN,
+        report: AFTER_REOPEN,
+        calls: REOPEN_BY_FOUR,
+    },
+    // The editor does not reopen the replica before the find is answered.
+    Case {
+        name: "a replica is reopened once its find is answered",
+        words: "replay --workers 1",
+        rules: &[(Hold(1, 4), Done(0, 1))],
+        session: REOPEN,
+        report: BEFORE_REOPEN,
+        calls: REOPEN_BY_ONE,
+    },
+    Case {
+        name: "a replica is reopened with 0 workers",
+        words: "replay --workers 0",
+        rules: &[],
+        session: REOPEN,
+        report: BEFORE_REOPEN,
         calls: &[],
     },
 ];

@@ -170,6 +170,18 @@ const ROWS: &[Row] = &[
         output: &[(LONG_FRONT, b'a', 65_536), (LONG_BACK, 0, 0)],
         is_whole: true,
     },
+    // What is written has a byte more than a session may have.
+    Row {
+        name: "as many bytes as there may be, without a last line feed",
+        words: "migrate",
+        input: &[("[\"zedbuf\",1,\"", b'a', LIMIT - 19), ("\",[1]]", 0, 0)],
+        ends: Ends {
+            room: LIMIT + 1,
+            ..AMPLE
+        },
+        output: &[("[\"zedbuf\",2,\"", b'a', LIMIT - 19), ("\",[1]]\n", 0, 0)],
+        is_whole: true,
+    },
     Row {
         name: NEEDLE,
         words: "replay --workers 0",

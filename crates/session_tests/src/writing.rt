@@ -74,6 +74,7 @@ enum Plain {
     Undo(UndoFault),
     Unnamed(u64),
     Settled(u64),
+    Reopen(u64),
     Give(GiveAnswer),
     Op(OpFault),
     EmptyNeedle,
@@ -89,6 +90,7 @@ fn plain_line(plain: Plain) -> Report {
         Plain::Undo(fault) => Report::UndoRefused { number: 4, fault },
         Plain::Unnamed(named) => Report::Unnamed { number: 4, named },
         Plain::Settled(count) => Report::Settled { replica: 2, count },
+        Plain::Reopen(count) => Report::Reopen { replica: 3, count },
         Plain::Give(answer) => Report::Give {
             number: 12,
             replica: 1023,
@@ -232,6 +234,8 @@ const LINES: &[(Plain, &str)] = &[
     (Plain::Made(LAST), "12: 4294967294.7"),
     (Plain::Unnamed(2), "4: nothing 2"),
     (Plain::Settled(3), "settled 2: 3"),
+    (Plain::Reopen(0), "reopen 3: 0"),
+    (Plain::Reopen(200_000), "reopen 3: 200000"),
     (Plain::EmptyNeedle, "find 12 at 34: empty needle"),
     (
         Plain::Point(PointAnswer::Point {

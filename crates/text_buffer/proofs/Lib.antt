@@ -20,3 +20,4 @@ pub mod Alike
 pub mod Costs
 pub mod Fronts
 pub mod Reached
+pub mod Opens

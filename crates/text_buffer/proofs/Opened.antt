@@ -15,7 +15,7 @@ use Rattle.op_model.specs.Histories.{History, base, version, clock, bytes_held, 
 use Rattle.op_model.specs.Lawful.{Lawful}
 use Rattle.op_model.proofs.histories.Proper.{utf8}
 use Rattle.op_model.proofs.texts.Lengths.{text_length}
-use Rattle.text_buffer.specs.BaseInside.{opening_text}
+use Rattle.text_buffer.specs.Bases.{opening_text}
 use Rattle.text_buffer.specs.Buffer.{BufferState, IsBuffer}
 use Rattle.text_buffer.specs.Document.{IsContent, IsBufferHistory}
 use Rattle.text_buffer.specs.DocumentInside.{IsDocumentInside}

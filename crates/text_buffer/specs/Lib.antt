@@ -7,6 +7,8 @@ pub mod BufferInside
 pub mod Settling
 pub mod Calls
 pub mod SnapshotLaws
+pub mod Bases
 pub mod BaseInside
 pub mod Entering
 pub mod EditResult
+pub mod Opening

@@ -54,7 +54,7 @@ use text_dims::TextSummary;
 ///
 /// - `new`: `main` of `crates/embed/src/main.rt`; `over`, with [`Base::new`]: `count_over` and `count_twice` of
 ///   `crates/buffer_tests/src/cases.rt`; `new_lf`: `open_lf` there; `endings`: `enters` of
-///   `crates/buffer_tests/src/entering.rt`
+///   `crates/buffer_tests/src/entering.rt`; `open`: `reopened` of `crates/buffer_tests/src/openings.rt`
 /// - `edit_uncounted`: `replace` of `crates/embed/src/main.rt`; `edit`, with a counter: `edit_with` of
 ///   `crates/buffer_tests/src/counted.rt`
 /// - `take`: `edit_both` of `crates/embed/src/main.rt`; `settle` and `undo`: the functions of these names of
@@ -66,11 +66,11 @@ use text_dims::TextSummary;
 #[derive(Drop)]
 pub struct Buffer {
     pub(crate) alloc: Global,
-    replica: u16,
+    pub(crate) replica: u16,
     pub(crate) document: Document,
     pub(crate) waiting: Deferred,
     pub(crate) refused: Vec<Refused>,
-    limits: Limits,
+    pub(crate) limits: Limits,
     pub(crate) endings: Endings,
 }
 
@@ -255,6 +255,13 @@ impl Buffer {
     {
         self.document.known();
         self.endings
+    }
+
+    /// The most that the buffer holds. Constant time; does not allocate.
+    pub fn limits(&self) -> Limits
+        ensures { result ≡ self.now.limits }
+    {
+        self.limits
     }
 
     /// Says what is true of every buffer, for callers' proofs. Does nothing when it runs.

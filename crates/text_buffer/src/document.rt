@@ -6,7 +6,7 @@ ghost use Rattle.lamport_clock.specs.Versions.{raise};
 ghost use Rattle.op_model.specs.declared.operation.Operation.TheVariants.{Edit, Undo};
 ghost use Rattle.op_model.specs.declared.operation.Piece.{Piece};
 ghost use Rattle.op_model.specs.Domains.{IsProper};
-ghost use Rattle.op_model.specs.Operations.{bytes_of, entries_of, stamp_of, text_total};
+ghost use Rattle.op_model.specs.Operations.{bytes_of, entries_of, pieces_of, stamp_of, text_total};
 ghost use Rattle.op_model.specs.Histories.{Distinct, base, bytes_held, clock, operation_at, version};
 ghost use Rattle.op_model.specs.Limited.{excess};
 ghost use Rattle.op_model.specs.Made.{local_edit};
@@ -15,12 +15,13 @@ ghost use Rattle.op_model.specs.Rules.{answer_under};
 ghost use Rattle.undo_map.specs.Undos.{undo_entries};
 ghost use Rattle.op_answers.specs.Verdicts.{answer_of};
 ghost use Rattle.remote_edit.specs.Moves.{TakeTexts};
+ghost use Rattle.text_buffer.specs.Bases.{first_text};
 ghost use Rattle.text_buffer.specs.Costs.{IsEditCost};
 ghost use Rattle.text_buffer.specs.Document.{IsContent, IsBufferHistory, IsMoved, MayEdit, MayGrow, excess_of};
 
 use crate::content::{BASE, Content};
 use crate::faults::Excess;
-use crate::pieces::size;
+use crate::pieces::{first_text, size};
 use crate::{Endings, OutOfMemory};
 use applied_ops::AppliedList;
 use deferred_ops::Deferred;
@@ -70,11 +71,21 @@ impl Document {
         requires { length (string_bytes text) ≤ 2 ^ 40 }
         ensures { IfOk result (λ d. d ≡ base (string_bytes text) ∷ []) }
     {
+        let op = base_operation(alloc, text)?;
+        Document::over_base(alloc, op)
+    }
+
+    /// A base alone, given as its operation. Linear in its text.
+    pub fn over_base(alloc: Global, op: Operation) -> Result<Document, OutOfMemory>
+        requires base { op ≡ base (first_text (pieces_of op)) }
+        requires room { length (first_text (pieces_of op)) ≤ 2 ^ 40 }
+        ensures { IfOk result (λ d. d ≡ op ∷ []) }
+    {
         let version = base_version(alloc)?;
-        let shown = text.as_str();
+        let shown = first_text(&op);
         let bytes = shown.len() as u64;
         let content = Content::over(alloc, shown)?;
-        let operations = base_list(alloc, text)?;
+        let operations = list_of(alloc, op)?;
         Ok(Document {
             alloc,
             operations,
@@ -436,13 +447,12 @@ fn base_version(alloc: Global) -> Result<Arc<Version>, OutOfMemory>
     Ok(Arc::new(alloc, version)?)
 }
 
-// The base in a list of its own.
-fn base_list(alloc: Global, text: String) -> Result<AppliedList, OutOfMemory>
-    ensures { IfOk result (λ l. l ≡ base (string_bytes text) ∷ []) }
+// An operation in a list of its own.
+fn list_of(alloc: Global, op: Operation) -> Result<AppliedList, OutOfMemory>
+    ensures { IfOk result (λ l. l ≡ op ∷ []) }
 {
-    let operation = base_operation(alloc, text)?;
     let mut operations = AppliedList::new(alloc)?;
-    operations.push(alloc, operation)?;
+    operations.push(alloc, op)?;
     Ok(operations)
 }
 

@@ -1,18 +1,20 @@
 //! Laws of what snapshots answer, of calls that were stopped, and of what calls leave, shown by functions that do nothing.
-ghost use Rattle.std.specs.Prelude.{◌≡◌, ◌≤◌, ◌⊎◌};
+ghost use Rattle.std.specs.Prelude.{◌≡◌, ◌≤◌, ◌⊎◌, None};
 ghost use Rattle.op_model.specs.Answers.Answer.{Good, Refused as refused};
 ghost use Rattle.op_model.specs.Histories.{SameSet};
 ghost use Rattle.op_model.specs.declared.faults.OpFault.{OpFault};
 ghost use Rattle.op_model.specs.declared.operation.Operation.{Operation};
+ghost use Rattle.op_model.specs.Opened.{open_fault};
 ghost use Rattle.op_model.specs.Steps.{Step};
 ghost use Rattle.op_model.specs.Steps.Step.{Takes};
 ghost use Rattle.op_model.specs.Stopped.{AreAlike};
-ghost use Rattle.text_buffer.specs.Buffer.{AllMiss, BufferState, IsBuffer, after_call, after_settle, after_take, answer_to, number_applied, state};
+ghost use Rattle.text_buffer.specs.Buffer.{AllMiss, BufferState, IsBuffer, after_call, after_settle, after_take, answer_to, number_applied, rules, state};
 ghost use Rattle.text_buffer.specs.Calls.{AreStopped, IsPartly, IsStopped, Reaches};
 ghost use Rattle.text_buffer.specs.Document.{IsFront};
+ghost use Rattle.text_buffer.specs.Opening.{ActAlike, OpenedBuffersApplyAll, opened_with};
 ghost use Rattle.text_buffer.specs.SnapshotLaws.{AnchorsStay, AnswerAlike, EditsMakeTheText};
 
-use crate::{Snapshot, snapshots_append};
+use crate::{Buffer, Snapshot, snapshots_append};
 
 /// Two snapshots of the same operations, in whatever order, answer alike: with the same anchors, places, orders, texts, edits and
 /// faults.
@@ -74,4 +76,27 @@ pub fn good_operations_are_applied()
 pub fn refused_operations_change_nothing()
     ensures { (b n : BufferState) → (op : Operation) → (e : OpFault) → answer_to b op ≡ refused e
         → (n ≡ b) ⊎ IsStopped (Takes op) b n → (n ≡ b) × (after_take b op ≡ b) }
+{}
+
+/// What a buffer has applied opens a buffer without fault, under the same limits and the same rule on line endings:
+/// `Buffer::open` can then fail only if an allocation fails.
+pub fn applied_operations_open(buffer: &Buffer)
+    ensures { open_fault (rules buffer.now) buffer.now.history ≡ None }
+{
+    buffer.known();
+}
+
+/// A buffer that is opened with what another one has applied, as the same replica and under the same rules, acts as
+/// that one: both have one text and one version, make and resolve the same anchors in the same order, have the same
+/// edits since a version, and make the same operation of the next edit or undo, or meet the same fault.
+pub fn opened_buffers_act_alike()
+    ensures { (b : BufferState) → ActAlike b
+        (opened_with b.replica b.history b.limits b.endings) }
+{}
+
+/// If each operation of an honest set is one that a buffer was opened with, or was made or taken by its calls, and
+/// besides these it made and took nothing, it has applied the whole set after a last settling, where none was
+/// forgotten and no Full came.
+pub fn opened_buffers_apply_all()
+    ensures { OpenedBuffersApplyAll }
 {}

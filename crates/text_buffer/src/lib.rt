@@ -28,6 +28,7 @@ mod entering;
 mod faults;
 mod forgetting;
 mod laws;
+mod opening;
 mod outcomes;
 mod past;
 mod pieces;
@@ -43,13 +44,14 @@ pub use buffer::{Buffer, agree};
 pub use edits_since::Edits;
 pub use faults::NewFault;
 pub use laws::{
-    anchors_stay, edits_make_the_text, good_operations_are_applied,
-    refused_operations_change_nothing, snapshots_answer_alike, stopped_calls_apply_partly,
-    stopped_calls_go_on, waiting_operations_miss_causes,
+    anchors_stay, applied_operations_open, edits_make_the_text, good_operations_are_applied,
+    opened_buffers_act_alike, opened_buffers_apply_all, refused_operations_change_nothing,
+    snapshots_answer_alike, stopped_calls_apply_partly, stopped_calls_go_on,
+    waiting_operations_miss_causes,
 };
 pub use op_model::{
-    Anchor, Bias, EditFault, Endings, Limits, OpFault, OutOfMemory, PlaceFault, SinceFault,
-    TextEdit, UndoFault, Unit,
+    Anchor, Bias, EditFault, Endings, Limits, OpFault, OpenFault, OutOfMemory, PlaceFault,
+    SinceFault, TextEdit, UndoFault, Unit,
 };
 pub use outcomes::{Refused, Took};
 pub use snapshot::{Snapshot, snapshots_agree, snapshots_append};

@@ -1,7 +1,8 @@
-//! What an operation adds to what a buffer holds.
+//! What an operation adds to what a buffer holds, and its first text.
 ghost use Rattle.std.specs.Prelude.{◌≡◌};
 ghost use Rattle.op_model.specs.Domains.{IsProper};
-ghost use Rattle.op_model.specs.Operations.{bytes_of, entries_of};
+ghost use Rattle.op_model.specs.Operations.{bytes_of, entries_of, pieces_of};
+ghost use Rattle.text_buffer.specs.Bases.{first_text};
 
 use op_model::{Operation, text_total};
 
@@ -19,5 +20,18 @@ pub fn size(op: &Operation) -> (u128, u64)
             (text_total(pieces), 1 + pieces.len() as u64)
         }
         Operation::Undo(undo) => (0, 1 + undo.counts.as_slice().len() as u64),
+    }
+}
+
+/// The text of an operation's first piece, which is the text of a base. Empty if there is no piece.
+pub fn first_text(op: &Operation) -> &str
+    ensures { result.now ≡ first_text (pieces_of op.now) }
+{
+    match op {
+        Operation::Edit(edit) => match edit.pieces.as_slice() {
+            [piece, ..] => piece.text.as_str(),
+            [] => "",
+        },
+        Operation::Undo(_) => "",
     }
 }

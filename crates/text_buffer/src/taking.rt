@@ -71,7 +71,7 @@ impl Buffer {
     }
 
     // The answer to an operation, before the limits are asked.
-    fn judge(&self, op: &Operation) -> Verdict
+    pub(crate) fn judge(&self, op: &Operation) -> Verdict
         ensures { answer_of result ≡ answer_under (rules self.now).endings self.now.history
             self.now.waiting op.now }
     {

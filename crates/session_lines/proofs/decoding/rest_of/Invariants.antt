@@ -5,7 +5,7 @@ use Rattle.session_lines.proofs.decoding.rest_of.Given as goal
 
 abbrev pub invariant-loop-rest : goal.invariant-loop-rest
 invariant-loop-rest l = record {
-  read : rest_of l.replicas l.lines (lines_of l.rest) ≡ rest_of l.replicas [] (lines_of l.text);
+  read : rest_of l.migrate l.header l.lines (lines_of l.rest) ≡ rest_of l.migrate l.header [] (lines_of l.text);
   count : length l.lines + length l.rest ≤ length l.text;
 }
 

@@ -2,7 +2,7 @@ use Rattle.std.proofs.Common.{◌≤◌, ◌^◌, ◌∙◌, List, ℕ, [], ◌�
 use Rattle.op_model.specs.declared.operation.Operation.{Operation}
 use Rattle.op_model.specs.Histories.{base}
 use Rattle.op_model.specs.Rules.{KeepsRule}
-use Rattle.text_buffer.specs.BaseInside.{opening_text}
+use Rattle.text_buffer.specs.Bases.{opening_text}
 use Rattle.text_buffer.proofs.LineEndings.{base_rule}
 use Rattle.text_buffer.proofs.Opened.{base_alone}
 use Rattle.text_buffer.proofs.base.Base.over.Goals as goal

@@ -1,16 +1,16 @@
-use Rattle.std.proofs.Common.{◌≤◌, ◌^◌, ℕ, List, [], ◌∷◌, length, refl, ap, subst, sym}
-use Rattle.std.specs.Prelude.{string_bytes}
-use Rattle.std.specs.Str.{IsUtf8}
+use Rattle.std.proofs.Common.{◌≡◌, ◌≤◌, ◌^◌, [], ◌∷◌, length, refl, ap, subst, sym, ◌∙◌}
+use Rattle.std.proofs.lemmas.Result.{IfOk-weaker}
+use Rattle.op_model.specs.declared.operation.Operation.{Operation}
 use Rattle.op_model.specs.Histories.{base}
-use Rattle.text_buffer.specs.Document.{IsContent}
-use Rattle.text_buffer.proofs.Opened.{IsDocumentInside-opened}
+use Rattle.op_model.specs.Operations.{pieces_of}
+use Rattle.text_buffer.specs.Bases.{first_text}
 use Rattle.text_buffer.proofs.document.Document.over.Goals as goal
 
-pub over-requires : goal.over-requires
-over-requires c = subst (λ (t : List ℕ). length t ≤ 2 ^ 40) (sym c.as_str-shown.ensures.value) c.requires
+pub over_base-requires-clause-base : goal.over_base-requires-clause-base
+over_base-requires-clause-base c = subst (λ (o : Operation). o ≡ base (first_text (pieces_of o))) (sym c.in_ok-op.ensures) refl
 
-pub invariant_of-result : goal.invariant_of-result
-invariant_of-result c =
-    let t = string_bytes c.args.text in
-    IsDocumentInside-opened _ t (subst IsUtf8 c.as_str-shown.ensures.value c.as_str-shown.utf8) c.requires c.in_ok-operations.ensures refl (c.in_ok-version.ensures t)
-    (subst (λ (u : List ℕ). IsContent c.in_ok-content.content (base u ∷ [])) c.as_str-shown.ensures.value c.in_ok-content.ensures) (ap length c.as_str-shown.ensures.value) refl
+pub over_base-requires-clause-room : goal.over_base-requires-clause-room
+over_base-requires-clause-room c = subst (λ (o : Operation). length (first_text (pieces_of o)) ≤ 2 ^ 40) (sym c.in_ok-op.ensures) c.requires
+
+pub returns : goal.returns
+returns c = IfOk-weaker c.over_base.result _ _ (λ d e. e ∙ ap (λ (o : Operation). o ∷ []) c.in_ok-op.ensures) c.over_base.ensures
