@@ -35,11 +35,11 @@ module _ {T : Type 0} where
   step_part {s} {ts} {k} {r} {n} {i} {t} st = part_within s ts k r n i t st.inner st.lt st.within st.before st.read
 
   -- a pair that is put in place is not handed back
-  pub pair_forth : {S E : Type 0} {ss : List S} {w : ℕ} {xs : List T} {old new : Seen T} (P : Type 0) (h : ℕ) (a : Seen T) (r : Result (Placing (Vec S Global) (Vec T Global) (Seen T)) E) → IsChild h a → ((ys : List T) → IsPlacingOr ss w xs ys old new r) → IfOk r (λ p. OnBack p P)
-  pair_forth P h a (Ok (Done none)) c f = tt
-  pair_forth P h a (Ok (Split b d none)) c f = tt
-  pair_forth P h a (Ok (Back es)) c f = absurd (omega (arith, ap length (sym (f []).1 ∙ (f a.items).1), child_filled h a c))
-  pair_forth P h a (Err e) c f = tt
+  pub pair_forth : {S E : Type 0} (ss : List S) (w : ℕ) (xs : List T) (old new : Seen T) (P : Type 0) (h : ℕ) (a : Seen T) (r : Result (Placing (Vec S Global) (Vec T Global) (Seen T)) E) → IsChild h a → ((ys : List T) → IsPlacingOr ss w xs ys old new r) → IfOk r (λ p. OnBack p P)
+  pair_forth ss w xs old new P h a (Ok (Done none)) c f = tt
+  pair_forth ss w xs old new P h a (Ok (Split b d none)) c f = tt
+  pair_forth ss w xs old new P h a (Ok (Back es)) c f = absurd (omega (arith, ap length (sym (f []).1 ∙ (f a.items).1), child_filled h a c))
+  pair_forth ss w xs old new P h a (Err e) c f = tt
 
 module _ {S E N : Type 0} where
   -- what follows from what holds where the new entries are handed back
@@ -47,6 +47,12 @@ module _ {S E N : Type 0} where
   back_more (Done none) f h = tt
   back_more (Split a b none) f h = tt
   back_more (Back es) f h = f h
+
+  -- what holds anyway
+  pub back_of : {P : Type 0} (p : Placing S E N) → P → OnBack p P
+  back_of (Done none) h = tt
+  back_of (Split a b none) h = tt
+  back_of (Back es) h = h
 
 module _ {S T : Type 0} where
   pub copied_items : (c d : Content T S) → IsCopy c d → content_items d ≡ content_items c
@@ -67,13 +73,14 @@ module _ {S T : Type 0} where
   copied_content h (Leaf v) (Inner w) is k = absurd is
   copied_content h (Inner v) (Leaf w) is k = absurd is
 
-module _ {S T : Type 0} {empty : S} {op : S → S → S} {fits : S → Type 0} {sum_of : T → S} where
+module _ {S T : Type 0} (empty : S) (op : S → S → S) (fits : S → Type 0) (sum_of : T → S) where
   -- a node with copies of what another holds is like it
   pub copied_node : (n : Node T S) (d : Content T S) (s : S) → IsCopy n.content d → s ≡ n.sum → IsNode empty op fits sum_of n → IsNode empty op fits sum_of (record { height = n.height; len = n.len; sum = s; content = d })
   copied_node n d s is e h =
       let same : content_items n.content ≡ content_items d = sym (copied_items n.content d is) in
       (copied_content n.height n.content d is h.0, subst (λ (xs : List T). n.len ≡ length xs) same h.1, e ∙ subst (λ (xs : List T). n.sum ≡ fold empty op sum_of xs) same h.2, subst (λ (xs : List T). fits (fold empty op sum_of xs)) same h.3, subst (λ (xs : List T). length xs ≤ 2 ^ 40) same h.4)
 
+module _ {S T : Type 0} {empty : S} {op : S → S → S} {sum_of : T → S} where
   -- the sums of a change of a child
   pub step_both : {s : Seen T} {ts : List (Seen T)} {k r n i : ℕ} {t : Seen T} {ys : List T} (e : Sums S) → IsStep s ts k r n i t ys → AreSums empty op sum_of i n ys s.items e → AreSums empty op sum_of r n ys t.items e
   step_both e st h = record { out = h.out ∙ ap (fold empty op sum_of) (step_part st); put = h.put }

@@ -38,13 +38,9 @@ pub trait Exchange: Summary {
     /// # Errors
     ///
     /// Fails only if an allocation fails.
-    fn exchange(
-        &self,
-        alloc: Global,
-        out: &Self,
-        put: &Self,
-    ) -> Result<Option<Self>, OutOfMemory>
-        ensures { IfOk result (λ o. IfSome o (IsExchange op admits self.now out.now put.now)) };
+    fn exchange(&self, alloc: Global, out: &Self, put: &Self) -> Result<Option<Self>, OutOfMemory>
+        ensures { IfOk result (λ o. IfSome o (IsExchange Self.op Self.admits self.now
+            out.now put.now)) };
 }
 
 // The sum of the items that a change takes out, and that of the items that it puts in their place.

@@ -106,7 +106,7 @@ exchange_in_children-returns-in-Split-clause-back g t' c =
     let st = step c.args.height c.in-Some.place.0 c.in-Some.place.1 c.args.count c.args.from c.args.entries.items c.requires.children c.deref.ensures.value c.in-Some.ensures.some c.index_mut.ensures.value in
     let split = rw c.in-Split.is at c.in_ok-none.ensures.placing in
     let pair = step_pair c.in-Split.front c.in-Split.back st split.0 split.1 in
-    pair_forth _ c.args.height c.in-Split.front c.pair_in_place.result pair.front c.pair_in_place.ensures.placing
+    pair_forth _ _ _ _ _ _ c.args.height c.in-Split.front c.pair_in_place.result pair.front c.pair_in_place.ensures.placing
 
 pub exchange_in_children-returns-in-Back-clause-children : goal.exchange_in_children-returns-in-Back-clause-children
 exchange_in_children-returns-in-Back-clause-children g t' c =
@@ -157,5 +157,6 @@ pub exchange_here-exchange_owned-requires : goal.exchange_here-exchange_owned-re
 exchange_here-exchange_owned-requires g t c κs within =
     let same : c.own.new.tree ≡ c.args.self.now = c.own.ensures.same in
     let fewer : 4 * c.own.new.tree.height + 2 < 4 * c.args.self.now.height + 3 = omega (arith, ap (λ (q : Seen _). q.height) same) in
-    let sum = exchanged g.met.T.Summary.Summary.laws g.T.Item.sum_of g.met.T.Item.admitted c.args.from c.args.count c.args.entries.items c.args.self.now.items c.summary.result.now c.in-Some.sum c.args.sums.now c.summary.ensures c.requires.sums c.in-Some.ensures in
+    let is = rw c.in-Some.is at c.in_ok-exchange.ensures in
+    let sum = exchanged g.met.T.Summary.Summary.laws g.T.Item.sum_of g.met.T.Item.admitted c.args.from c.args.count c.args.entries.items c.args.self.now.items c.summary.result.now c.in-Some.sum c.args.sums.now c.summary.ensures c.requires.sums is in
     rw same (search rules)
