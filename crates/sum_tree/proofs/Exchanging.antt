@@ -1,12 +1,12 @@
 -- Sums where a part of the items is replaced, and copies of nodes.
-use Rattle.std.proofs.Common.{◌≡◌, refl, ℕ, ◌+◌, ◌<◌, ◌^◌, ◌≤◌, List, [], ◌++◌, length, get_or, take, drop, Vec, Global, sym, ap, subst, ◌∙◌, append_assoc, take-append-drop, arith}
+use Rattle.std.proofs.Common.{◌≡◌, ℕ, ◌+◌, ◌<◌, ◌^◌, ◌≤◌, List, [], ◌++◌, length, get_or, take, drop, Vec, Global, sym, ap, subst, ◌∙◌, append_assoc, take-append-drop, arith}
 use Rattle.std.proofs.lemmas.List.{take-append-le, drop-append-le, length-drop, drop-drop}
 use Rattle.std.proofs.Math.Seq.{drop-append-add}
 use Rattle.std.specs.Prelude.{Result, Ok, Err, IfOk}
 use Rattle.std.specs.List.{All}
 use Rattle.sum_tree.specs.Laws.{SummaryLaws, fold}
 use Rattle.sum_tree.specs.Seen.{Seen}
-use Rattle.sum_tree.specs.Shape.{IsNode, IsChild, IsContent, join_items, node_view, content_items, content_width}
+use Rattle.sum_tree.specs.Shape.{IsNode, IsChild, IsContent, join_items, content_items}
 use Rattle.sum_tree.specs.Exchange.{AreSums, IsCopy, IsExchange, OnBack}
 use Rattle.sum_tree.specs.Placed.{IsPlacingOr}
 use Rattle.sum_tree.specs.Spliced.{splice_list}
@@ -41,31 +41,12 @@ module _ {T : Type 0} where
   pair_forth ss w xs old new P h a (Ok (Back es)) c f = absurd (omega (arith, ap length (sym (f []).1 ∙ (f a.items).1), child_filled h a c))
   pair_forth ss w xs old new P h a (Err e) c f = tt
 
-module _ {S E N : Type 0} where
-  -- what follows from what holds where the new entries are handed back
-  pub back_more : {P Q : Type 0} (p : Placing S E N) → (P → Q) → OnBack p P → OnBack p Q
-  back_more (Done none) f h = tt
-  back_more (Split a b none) f h = tt
-  back_more (Back es) f h = f h
-
-  -- what holds anyway
-  pub back_of : {P : Type 0} (p : Placing S E N) → P → OnBack p P
-  back_of (Done none) h = tt
-  back_of (Split a b none) h = tt
-  back_of (Back es) h = h
-
 module _ {S T : Type 0} where
   pub copied_items : (c d : Content T S) → IsCopy c d → content_items d ≡ content_items c
   copied_items (Leaf v) (Leaf w) is = is
   copied_items (Inner v) (Inner w) is = ap join_items is
   copied_items (Leaf v) (Inner w) is = absurd is
   copied_items (Inner v) (Leaf w) is = absurd is
-
-  pub copied_width : (c d : Content T S) → IsCopy c d → content_width d ≡ content_width c
-  copied_width (Leaf v) (Leaf w) is = ap length is
-  copied_width (Inner v) (Inner w) is = ap length is
-  copied_width (Leaf v) (Inner w) is = absurd is
-  copied_width (Inner v) (Leaf w) is = absurd is
 
   pub copied_content : (h : ℕ) (c d : Content T S) → IsCopy c d → IsContent h c → IsContent h d
   copied_content h (Leaf v) (Leaf w) is k = (k.0, subst (λ (xs : List T). length xs ≤ 12) (sym is) k.1)

@@ -1,5 +1,5 @@
 -- Sums where a part of a run is replaced.
-use Rattle.std.specs.Prelude.{◌≡◌, ℕ, List, length, take, drop, Vec}
+use Rattle.std.specs.Prelude.{◌≡◌, ℕ, List, take, drop, Vec}
 use Rattle.std.specs.Global.{Global}
 use Rattle.sum_tree.specs.Laws.{fold}
 use Rattle.sum_tree.specs.declared.exchange.Sums.{Sums}
