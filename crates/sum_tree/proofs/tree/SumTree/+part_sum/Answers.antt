@@ -1,4 +1,4 @@
-use Rattle.std.proofs.Common.{rules, ◌≡◌, ◌+◌, ◌-◌, ◌<◌, List, length, drop, [], ap, sym, subst, ◌∙◌, arith}
+use Rattle.std.proofs.Common.{rules, ◌≡◌, ◌+◌, ◌-◌, ◌<◌, List, drop, [], ap, sym, subst, ◌∙◌, arith}
 use Rattle.std.specs.Prelude.{IfOk, IfSome}
 use Rattle.sum_tree.specs.Laws.{fold}
 use Rattle.sum_tree.specs.Seen.{Seen}

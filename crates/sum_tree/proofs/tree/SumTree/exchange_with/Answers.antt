@@ -1,7 +1,6 @@
-use Rattle.std.proofs.Common.{rules, ◌^◌, ◌≤◌, List, Some, length, sym, ap, subst, arith}
+use Rattle.std.proofs.Common.{rules, ◌^◌, ◌≤◌, List, Some, length, sym, subst}
 use Rattle.std.proofs.Math.Nat.{add-sub_of_le}
 use Rattle.sum_tree.specs.Laws.{fold}
-use Rattle.sum_tree.specs.Seen.{Seen}
 use Rattle.sum_tree.proofs.Pairs.{split_root}
 use Rattle.sum_tree.proofs.Ranges.{split_range}
 use Rattle.sum_tree.proofs.tree.SumTree.exchange_with.Goals as goal
