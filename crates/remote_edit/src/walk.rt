@@ -341,7 +341,7 @@ fn put<L: Ledger>(
     ensures cost { MakeFew steps.old steps.new from to (length fragments.items) }
 {
     tree.known();
-    tree.splice_counted(alloc, from, to, fragments, steps)?;
+    tree.exchange_counted(alloc, from, to, fragments, steps)?;
     Ok(())
 }
 
