@@ -54,7 +54,8 @@ pub fn place_remote(
     place_remote_into(alloc, tree.share()?, index.share()?, undos, op)
 }
 
-/// Does what `place_remote` does, to a tree and an index that it takes whole: what nothing else shares changes in place.
+/// Does what `place_remote` does, to a tree and an index that it takes whole: what nothing else shares changes in
+/// place.
 ///
 /// # Errors
 ///

@@ -68,8 +68,8 @@ impl Walk {
         Ok(target.bytes - place)
     }
 
-    // The tree, and the fragments that a piece makes from the range that begins here, after `left` more cells are passed
-    // before its text.
+    // The tree, and the fragments that a piece makes from the range that begins here, after `left` more cells are
+    // passed before its text.
     fn gather(
         self,
         alloc: Global,
@@ -183,7 +183,8 @@ impl Walk {
             (cells_len self.tree.items + length piece.now.text)
             (take w.at w.tree.items) (drop w.at w.tree.items) w.place) }
         ensures number { IfOk result (λ w. w.number ≡ self.number + length piece.now.text) }
-        ensures indexed { IfOk result (λ w. IsIndexed edit.now.stamp w.number w.tree.items w.index) }
+        ensures indexed { IfOk result (λ w. IsIndexed edit.now.stamp w.number w.tree.items
+            w.index) }
         ensures cost { AllSeen edit.now.version (drop self.at self.tree.items)
             → count ≤ 2 ^ 40 → steps.new ≤ steps.old + 256 * (1
             + starts (max 1 count) (count + (piece.now.end - piece.now.start))
@@ -214,7 +215,8 @@ impl Walk {
             ≡ walk undos.now edit.now.stamp edit.now.version 0 0 edit.now.pieces
             [] self.tree.items) }
         ensures fit { IfOk result (λ w. Fit w.tree.items) }
-        ensures indexed { IfOk result (λ w. IsIndexed edit.now.stamp w.number w.tree.items w.index) }
+        ensures indexed { IfOk result (λ w. IsIndexed edit.now.stamp w.number w.tree.items
+            w.index) }
         ensures cost { AllSeen edit.now.version self.tree.items
             → Ordered 0 (2 ^ 40) edit.now.pieces
             → steps.new ≤ steps.old + 256 * (length edit.now.pieces
