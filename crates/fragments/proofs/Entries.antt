@@ -18,7 +18,7 @@ use Rattle.fragments.specs.Index.{key_of, key_cmp, key_order, with_entry}
 use Rattle.fragments.specs.Laws.{EntryTakesItsPlace}
 use Rattle.locators.proofs.Between.{nat_cmp-Equal}
 
-then_equal : (a b : Ordering) → ordering_then a b ≡ Equal → (a ≡ Equal) × (b ≡ Equal)
+pub then_equal : (a b : Ordering) → ordering_then a b ≡ Equal → (a ≡ Equal) × (b ≡ Equal)
 then_equal Less b h = cc
 then_equal Equal b h = (refl, h)
 then_equal Greater b h = cc

@@ -2,6 +2,7 @@ mod Widening
 mod Stamping
 pub mod Searching
 mod Replacing
+mod Exchanging
 pub mod Entries
 pub mod Runs
 pub mod Deletions

@@ -10,7 +10,7 @@ use Rattle.fragments.specs.Spans.{hull, with_span, join_spans, AreSpansFrom, Are
 abbrev span : ℕ → ℕ → ℕ → Span
 span r l g = record { replica = r; least = l; greatest = g }
 
-span_of : {r s l m g h : ℕ} → r ≡ s → l ≡ m → g ≡ h → span r l g ≡ span s m h
+pub span_of : {r s l m g h : ℕ} → r ≡ s → l ≡ m → g ≡ h → span r l g ≡ span s m h
 span_of {r} {s} {l} {m} {g} {h} a b c = ap (λ x. span x l g) a ∙ ap (λ x. span s x g) b ∙ ap (span s m) c
 
 hull_comm : (a b : Span) → a.replica ≡ b.replica → hull a b ≡ hull b a
@@ -55,7 +55,7 @@ wide_wide x y u = by_order _ x.replica y.replica
     (λ h. wide_same x y u h ∙ ap (λ z. with_span z u) (hull_comm y x (sym h)) ∙ sym (wide_same y x u (sym h)))
     (λ h. sym (wide_less y x u h))
 
-wide_out : (x : Span) (u v : List Span) → with_span x (join_spans u v) ≡ join_spans (with_span x u) v
+pub wide_out : (x : Span) (u v : List Span) → with_span x (join_spans u v) ≡ join_spans (with_span x u) v
 wide_out x u [] = refl
 wide_out x u (y ∷ v) = wide_out x (with_span y u) v ∙ ap (λ z. join_spans z v) (wide_wide x y u)
 

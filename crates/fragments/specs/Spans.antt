@@ -52,6 +52,17 @@ abbrev pub has_replicas : List Span → List Span → Bool
 has_replicas u [] = true
 has_replicas u (x ∷ v) = has_replica u x.replica && has_replicas u v
 
+-- u has all stamps of the span x
+abbrev pub covers : List Span → Span → Bool
+covers [] x = false
+covers (y ∷ u) x = if nat_lt y.replica x.replica then covers u x
+    else (y.replica == x.replica && (nat_le y.least x.least && nat_le x.greatest y.greatest))
+
+-- it has those of each span of v
+abbrev pub covers_all : List Span → List Span → Bool
+covers_all u [] = true
+covers_all u (x ∷ v) = covers u x && covers_all u v
+
 -- the span at an index if it is replica r's, otherwise None
 abbrev pub IsSpanAt : List Span → ℕ → ℕ → Option Span → Type 0
 IsSpanAt u i r (Some x) = (slice_get u i ≡ Some x) × (x.replica ≡ r)

@@ -66,3 +66,9 @@ all_but_id a b = record {
   span = join_spans a.span b.span;
   greatest = join_versions a.greatest b.greatest;
 }
+
+-- y has the greatest id of x and y, and all stamps and versions that x has
+pub record Absorbs (y x : FragmentSummary) : Type 0 where
+  pub id : greater_id x.last_id y.last_id ≡ y.last_id
+  pub span : join_spans y.span x.span ≡ y.span
+  pub greatest : join_versions y.greatest x.greatest ≡ y.greatest

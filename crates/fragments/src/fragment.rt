@@ -1,14 +1,14 @@
 //! Fragments and their summaries.
-ghost use Rattle.std.specs.Prelude.{◌≡◌, IfOk, OnErr, OnOk, true, if◌then◌else◌};
+ghost use Rattle.std.specs.Prelude.{◌≡◌, ◌+◌, IfOk, IfSome, OnErr, OnOk, true, if◌then◌else◌};
 ghost use Rattle.std.specs.Option.{option_copied};
-ghost use Rattle.fragments.specs.Summaries.{no_fragments, summaries, IsSummary, SummaryFits, IsOne, summary_of, with_stamps, greater_id, all_but_id};
+ghost use Rattle.fragments.specs.Summaries.{no_fragments, summaries, IsSummary, SummaryFits, IsOne, summary_of, with_stamps, greater_id, all_but_id, Absorbs};
 ghost use Rattle.fragments.specs.SummaryLaws.{summary_laws, one_admitted, one_single};
 
 use crate::{OutOfMemory, Span, Spans, Stamps};
 use lamport_clock::{Lamport, Version};
 use locators::Locator;
 use std::alloc::Global;
-use sum_tree::{Item, Summary};
+use sum_tree::{Exchange, Item, Summary};
 
 /// A run of cells of one edit that have the same status: shown or hidden, and by which edits they are deleted.
 ///
@@ -93,7 +93,63 @@ impl Summary for FragmentSummary {
     }
 }
 
+impl Exchange for FragmentSummary {
+    fn copy(&self, alloc: Global) -> Result<FragmentSummary, OutOfMemory> {
+        Ok(FragmentSummary {
+            visible: self.visible,
+            hidden: self.hidden,
+            last_id: copy_id(alloc, self.last_id.as_ref())?,
+            span: self.span.copy(alloc)?,
+            greatest: self.greatest.copy(alloc)?,
+        })
+    }
+
+    // What goes out is no longer known by itself, so what is put in must have its id, stamps and versions too.
+    fn exchange(
+        &self,
+        alloc: Global,
+        out: &FragmentSummary,
+        put: &FragmentSummary,
+    ) -> Result<Option<FragmentSummary>, OutOfMemory> {
+        if !put.absorbs(out) {
+            return Ok(None);
+        }
+        let Some(visible) = exchanged(self.visible, out.visible, put.visible) else {
+            return Ok(None);
+        };
+        let Some(hidden) = exchanged(self.hidden, out.hidden, put.hidden) else {
+            return Ok(None);
+        };
+        let last_id = greater_id(self.last_id.as_ref(), put.last_id.as_ref());
+        let mut greatest = self.greatest.copy(alloc)?;
+        greatest.join(&put.greatest)?;
+        Ok(Some(FragmentSummary {
+            visible,
+            hidden,
+            last_id: copy_id(alloc, last_id)?,
+            span: self.span.joined(alloc, &put.span)?,
+            greatest,
+        }))
+    }
+}
+
+// A number of cells after a part of them is replaced.
+fn exchanged(whole: u64, out: u64, put: u64) -> Option<u64>
+    ensures { IfSome result (λ n. n + out ≡ whole + put) }
+{
+    whole.checked_sub(out)?.checked_add(put)
+}
+
 impl FragmentSummary {
+    // Whether to join the other changes nothing but the numbers of cells. Does not allocate.
+    fn absorbs(&self, other: &FragmentSummary) -> bool
+        ensures { result ≡ true → Absorbs self.now other.now }
+    {
+        id_absorbs(self.last_id.as_ref(), other.last_id.as_ref())
+            && self.span.covers(&other.span)
+            && self.greatest.sees_all(&other.greatest)
+    }
+
     // Adds a sum, but keeps this one's id. The spans are put in place only after the last step that can fail.
     fn add_all_but_id(&mut self, alloc: Global, other: &FragmentSummary) -> Result<(), OutOfMemory>
         requires { SummaryFits (summaries self.old other.now) }
@@ -133,6 +189,18 @@ fn gives_way(id: Option<&Locator>, next: Option<&Locator>) -> bool
         (None, _) => true,
         (Some(_), None) => false,
         (Some(x), Some(y)) => x.cmp(y).is_lt(),
+    }
+}
+
+// Whether the other id is not the greater of the two.
+fn id_absorbs(id: Option<&Locator>, other: Option<&Locator>) -> bool
+    ensures { result ≡ true → greater_id (option_copied other.entry) (option_copied id.entry)
+        ≡ option_copied id.entry }
+{
+    match (other, id) {
+        (None, _) => true,
+        (Some(_), None) => false,
+        (Some(x), Some(y)) => x.cmp(y).is_le(),
     }
 }
 

@@ -1,7 +1,7 @@
 //! The least and the greatest value of some stamps, by replica.
 ghost use Rattle.std.specs.Prelude.{◌≡◌, ◌≤◌, ◌<◌, ◌∷◌, [], length, min, max, None, IsOk, IfOk, IfSome, OnErr, OnOk, true, false};
 ghost use Rattle.fragments.specs.declared.spans.Span.{Span};
-ghost use Rattle.fragments.specs.Spans.{hull, with_span, join_spans, spans_before, has_replica, has_replicas, IsSpanAt, sees_all, sees_none};
+ghost use Rattle.fragments.specs.Spans.{hull, with_span, join_spans, spans_before, has_replica, has_replicas, covers, covers_all, IsSpanAt, sees_all, sees_none};
 ghost use Rattle.fragments.specs.declared.spans.Sight.{Sight};
 
 use crate::OutOfMemory;
@@ -138,6 +138,41 @@ impl Spans {
         }
     }
 
+    // The same spans.
+    pub(crate) fn copy(&self, alloc: Global) -> Result<Spans, OutOfMemory>
+        ensures { IfOk result (λ s. s ≡ self.now) }
+    {
+        Ok(Spans {
+            inner: SmallVec::from_slice(alloc, self.as_slice())?,
+        })
+    }
+
+    // The spans of both joined.
+    pub(crate) fn joined(&self, alloc: Global, others: &Spans) -> Result<Spans, OutOfMemory>
+        ensures { IfOk result (λ s. s ≡ join_spans self.now others.now) }
+    {
+        match self.wider(alloc, others)? {
+            Some(spans) => Ok(spans),
+            None => {
+                let mut spans = self.copy(alloc)?;
+                spans.join(others);
+                Ok(spans)
+            }
+        }
+    }
+
+    // Whether the spans have all stamps of the others. O(n m), does not allocate.
+    pub(crate) fn covers(&self, others: &Spans) -> bool
+        ensures { result ≡ covers_all self.now others.now }
+    {
+        for span in others.as_slice() {
+            if !covers(self.as_slice(), *span) {
+                return false;
+            }
+        }
+        true
+    }
+
     /// Which of the stamps of these spans the version sees. Reads each span once, and stops once the answer is `Part`.
     /// Does not allocate.
     pub fn sight(&self, version: &Version) -> Sight
@@ -180,6 +215,20 @@ fn has_replica(spans: &[Span], r: u16) -> bool
     for span in spans {
         if r <= span.replica {
             return span.replica == r;
+        }
+    }
+    false
+}
+
+// Whether the spans have all stamps of this one.
+fn covers(spans: &[Span], span: Span) -> bool
+    ensures { result ≡ covers spans.now span }
+{
+    for other in spans {
+        if span.replica <= other.replica {
+            return other.replica == span.replica
+                && other.least <= span.least
+                && span.greatest <= other.greatest;
         }
     }
     false

@@ -26,7 +26,7 @@ pub use mark::was_shown;
 pub use moves::{Move, Moves};
 pub use offsets::full_pieces;
 pub use passed::{Passed, SeenPassed};
-pub use place::{place_local, place_remote};
+pub use place::{place_local, place_local_into, place_remote, place_remote_into};
 pub use placed::Placed;
 pub use sum_tree::OutOfMemory;
 pub use undo::{mark_undo, mark_undo_by_index, mark_undo_counted};

@@ -51,14 +51,40 @@ pub fn place_remote(
     ensures characters { IfOk result (λ p. KeepCharactersWithEdit tree.now.items index.now
         undos.now (Edit op.now) p.fragments.items p.moves) }
 {
+    place_remote_into(alloc, tree.share()?, index.share()?, undos, op)
+}
+
+/// Does what `place_remote` does, to a tree and an index that it takes whole: what nothing else shares changes in
+/// place.
+///
+/// # Errors
+///
+/// Fails only if an allocation fails. The tree and the index are dropped then.
+pub fn place_remote_into(
+    alloc: Global,
+    tree: SumTree<Fragment>,
+    index: InsertionIndex,
+    undos: &UndoMap,
+    op: &EditOp,
+) -> Result<Placed, OutOfMemory>
+    requires { MayPlace tree.items index undos.now (Edit op.now) }
+    ensures fragments { IfOk result (λ p. p.fragments.items
+        ≡ with_edit undos.now tree.items op.now) }
+    ensures stands { IfOk result (λ p. ArePlaced tree.items index undos.now
+        (Edit op.now) p.fragments.items p.index) }
+    ensures moves { IfOk result (λ p. MoveWithEdit tree.items index undos.now
+        (Edit op.now) p.moves) }
+    ensures characters { IfOk result (λ p. KeepCharactersWithEdit tree.items index
+        undos.now (Edit op.now) p.fragments.items p.moves) }
+{
     place_with::<Brand>(alloc, tree, index, undos, op, Blank::new(1))
 }
 
 // The same, with a counter made from the blank.
 fn place_with<L: Ledger>(
     alloc: Global,
-    tree: &SumTree<Fragment>,
-    index: &InsertionIndex,
+    tree: SumTree<Fragment>,
+    index: InsertionIndex,
     undos: &UndoMap,
     op: &EditOp,
     blank: Blank,
@@ -66,42 +92,42 @@ fn place_with<L: Ledger>(
     requires name { blank.name ≡ L.name }
     requires parts { blank.parts ≡ L.parts }
     requires some { 0 < blank.parts }
-    requires may { MayPlace tree.now.items index.now undos.now (Edit op.now) }
+    requires may { MayPlace tree.items index undos.now (Edit op.now) }
     ensures fragments { IfOk result (λ p. p.fragments.items
-        ≡ with_edit undos.now tree.now.items op.now) }
-    ensures stands { IfOk result (λ p. ArePlaced tree.now.items index.now undos.now
+        ≡ with_edit undos.now tree.items op.now) }
+    ensures stands { IfOk result (λ p. ArePlaced tree.items index undos.now
         (Edit op.now) p.fragments.items p.index) }
-    ensures moves { IfOk result (λ p. MoveWithEdit tree.now.items index.now undos.now
+    ensures moves { IfOk result (λ p. MoveWithEdit tree.items index undos.now
         (Edit op.now) p.moves) }
-    ensures characters { IfOk result (λ p. KeepCharactersWithEdit tree.now.items index.now
+    ensures characters { IfOk result (λ p. KeepCharactersWithEdit tree.items index
         undos.now (Edit op.now) p.fragments.items p.moves) }
 {
     let mut steps = Steps::<L>::new(blank);
     place_edit(alloc, tree, index, undos, op, &mut steps)
 }
 
-// Does what `place_remote` does, and counts a step for each node of the tree that is made. If the edit has seen all
-// fragments, there are at most 256 for each piece and each fragment that the ranges touch.
+// Does what `place_remote_into` does, and counts a step for each node of the tree that is made. If the edit has seen
+// all fragments, there are at most 256 for each piece and each fragment that the ranges touch.
 fn place_edit<L: Ledger>(
     alloc: Global,
-    tree: &SumTree<Fragment>,
-    index: &InsertionIndex,
+    tree: SumTree<Fragment>,
+    index: InsertionIndex,
     undos: &UndoMap,
     op: &EditOp,
     steps: &mut Steps<L>,
 ) -> Result<Placed, OutOfMemory>
-    requires { MayPlace tree.now.items index.now undos.now (Edit op.now) }
+    requires { MayPlace tree.items index undos.now (Edit op.now) }
     ensures fragments { IfOk result (λ p. p.fragments.items
-        ≡ with_edit undos.now tree.now.items op.now) }
-    ensures stands { IfOk result (λ p. ArePlaced tree.now.items index.now undos.now
+        ≡ with_edit undos.now tree.items op.now) }
+    ensures stands { IfOk result (λ p. ArePlaced tree.items index undos.now
         (Edit op.now) p.fragments.items p.index) }
-    ensures moves { IfOk result (λ p. MoveWithEdit tree.now.items index.now undos.now
+    ensures moves { IfOk result (λ p. MoveWithEdit tree.items index undos.now
         (Edit op.now) p.moves) }
-    ensures characters { IfOk result (λ p. KeepCharactersWithEdit tree.now.items index.now
+    ensures characters { IfOk result (λ p. KeepCharactersWithEdit tree.items index
         undos.now (Edit op.now) p.fragments.items p.moves) }
-    ensures cost { AllSeen op.now.version tree.now.items → Ordered 0 (2 ^ 40) op.now.pieces
+    ensures cost { AllSeen op.now.version tree.items → Ordered 0 (2 ^ 40) op.now.pieces
         → steps.new ≤ steps.old + 256 * (length op.now.pieces
-        + touch_count_behind 0 op.now.pieces tree.now.items) }
+        + touch_count_behind 0 op.now.pieces tree.items) }
 {
     let walk = walk_in(alloc, tree, index, undos, op, steps)?;
     let moves = edit_moves(alloc, &walk.tree, undos, op)?;
@@ -145,7 +171,48 @@ pub fn place_local<L: Ledger>(
     ensures cost { steps.new ≤ steps.old + 256 * (length changes.now
         + touch_count tree.now.items changes.now + 1) * (tree.now.height + 1) }
 {
-    let pieces = full_pieces(alloc, tree, changes)?;
+    place_local_into(
+        alloc,
+        tree.share()?,
+        index.share()?,
+        undos,
+        stamp,
+        version,
+        changes,
+        steps,
+    )
+}
+
+/// Does what `place_local` does, to a tree and an index that it takes whole: what nothing else shares changes in place.
+///
+/// # Errors
+///
+/// Fails only if an allocation fails. The tree and the index are dropped then.
+pub fn place_local_into<L: Ledger>(
+    alloc: Global,
+    tree: SumTree<Fragment>,
+    index: InsertionIndex,
+    undos: &UndoMap,
+    stamp: Lamport,
+    version: Version,
+    changes: &[Piece],
+    steps: &mut Steps<L>,
+) -> Result<(EditOp, Placed), OutOfMemory>
+    requires { MayMake tree.items index undos.now stamp version changes.now }
+    ensures made { IfOk result (λ r. IsMade tree.items index undos.now stamp version
+        changes.now (Edit r.0)) }
+    ensures fragments { IfOk result (λ r. r.1.fragments.items
+        ≡ with_edit undos.now tree.items r.0) }
+    ensures stands { IfOk result (λ r. ArePlaced tree.items index undos.now
+        (Edit r.0) r.1.fragments.items r.1.index) }
+    ensures moves { IfOk result (λ r. MoveWithEdit tree.items index undos.now
+        (Edit r.0) r.1.moves) }
+    ensures characters { IfOk result (λ r. KeepCharactersWithEdit tree.items index
+        undos.now (Edit r.0) r.1.fragments.items r.1.moves) }
+    ensures cost { steps.new ≤ steps.old + 256 * (length changes.now
+        + touch_count tree.items changes.now + 1) * (tree.height + 1) }
+{
+    let pieces = full_pieces(alloc, &tree, changes)?;
     let op = EditOp {
         stamp,
         version,

@@ -134,7 +134,7 @@ fn replace<L: Ledger>(
 {
     fragments.known();
     let one = list_of(alloc, fragment)?;
-    fragments.splice_counted(alloc, i, i + 1, one, steps)
+    fragments.exchange_counted(alloc, i, i + 1, one, steps)
 }
 
 // Replaces fragment i with what an undo of the edits makes of it.

@@ -68,41 +68,40 @@ impl Walk {
         Ok(target.bytes - place)
     }
 
-    // The fragments that a piece makes from the range that begins here, after `left` more cells are passed before its
-    // text.
+    // The tree, and the fragments that a piece makes from the range that begins here, after `left` more cells are
+    // passed before its text.
     fn gather(
-        &self,
+        self,
         alloc: Global,
         undos: &UndoMap,
         edit: &EditOp,
         left: u64,
         piece: &Piece,
-    ) -> Result<Gather, OutOfMemory>
+    ) -> Result<(SumTree<Fragment>, Gather), OutOfMemory>
         requires unseen { sees edit.now.version edit.now.stamp ≡ false }
-        requires within { self.now.at ≤ length self.now.tree.items }
-        requires fit { Fit self.now.tree.items }
-        requires place { self.now.place ≡ seen_bytes edit.now.version
-            (take self.now.at self.now.tree.items) }
-        requires room { cells_len self.now.tree.items + length piece.now.text ≤ 2 ^ 40 }
-        requires numbers { self.now.number + length piece.now.text < 2 ^ 64 }
-        requires indexed { IsIndexed edit.now.stamp self.now.number
-            (take self.now.at self.now.tree.items ++ drop self.now.at self.now.tree.items)
-            self.now.index }
-        ensures from { IfOk result (λ g. g.from ≡ self.now.at) }
-        ensures order { IfOk result (λ g. self.now.at ≤ g.at) }
-        ensures gathered { IfOk result (λ g. IsAt edit.now.version
-            (one_piece undos.now edit.now.stamp edit.now.version left self.now.number piece.now
-            (take self.now.at self.now.tree.items) (drop self.now.at self.now.tree.items))
-            (cells_len self.now.tree.items + length piece.now.text)
-            (so_far self.now.tree.items g) (ahead self.now.tree.items g) g.place) }
-        ensures few { AllSeen edit.now.version (drop self.now.at self.now.tree.items)
-            → IfOk result (λ g. g.at ≤ self.now.at
-            + starts 0 (left + (piece.now.end - piece.now.start))
-            (drop self.now.at self.now.tree.items)) }
-        ensures number { IfOk result (λ g. g.number ≡ self.now.number + length piece.now.text) }
-        ensures indexed { IfOk result (λ g. IsIndexed edit.now.stamp g.number
-            (so_far self.now.tree.items g ++ ahead self.now.tree.items g) g.index) }
+        requires within { self.at ≤ length self.tree.items }
+        requires fit { Fit self.tree.items }
+        requires place { self.place ≡ seen_bytes edit.now.version (take self.at self.tree.items) }
+        requires room { cells_len self.tree.items + length piece.now.text ≤ 2 ^ 40 }
+        requires numbers { self.number + length piece.now.text < 2 ^ 64 }
+        requires indexed { IsIndexed edit.now.stamp self.number
+            (take self.at self.tree.items ++ drop self.at self.tree.items) self.index }
+        ensures tree { IfOk result (λ r. r.0 ≡ self.tree) }
+        ensures from { IfOk result (λ r. r.1.from ≡ self.at) }
+        ensures order { IfOk result (λ r. self.at ≤ r.1.at) }
+        ensures gathered { IfOk result (λ r. IsAt edit.now.version
+            (one_piece undos.now edit.now.stamp edit.now.version left self.number piece.now
+            (take self.at self.tree.items) (drop self.at self.tree.items))
+            (cells_len self.tree.items + length piece.now.text)
+            (so_far self.tree.items r.1) (ahead self.tree.items r.1) r.1.place) }
+        ensures few { AllSeen edit.now.version (drop self.at self.tree.items)
+            → IfOk result (λ r. r.1.at ≤ self.at
+            + starts 0 (left + (piece.now.end - piece.now.start)) (drop self.at self.tree.items)) }
+        ensures number { IfOk result (λ r. r.1.number ≡ self.number + length piece.now.text) }
+        ensures indexed { IfOk result (λ r. IsIndexed edit.now.stamp r.1.number
+            (so_far self.tree.items r.1 ++ ahead self.tree.items r.1) r.1.index) }
     {
+        let tree = self.tree;
         let mut gather = Gather {
             from: self.at,
             at: self.at,
@@ -110,43 +109,40 @@ impl Walk {
             back: None,
             place: self.place,
             number: self.number,
-            index: self.index.share()?,
+            index: self.index,
         };
         let text = piece.text.as_str().len() as u64;
         let range = piece.end.saturating_sub(piece.start);
-        gather.pass(alloc, &self.tree, edit, left, None)?;
-        gather.skip_later(alloc, &self.tree, edit)?;
-        gather.put_new(alloc, &self.tree, edit, text)?;
-        gather.pass(alloc, &self.tree, edit, range, Some(undos))?;
-        Ok(gather)
+        gather.pass(alloc, &tree, edit, left, None)?;
+        gather.skip_later(alloc, &tree, edit)?;
+        gather.put_new(alloc, &tree, edit, text)?;
+        gather.pass(alloc, &tree, edit, range, Some(undos))?;
+        Ok((tree, gather))
     }
 
-    // Replaces a range with what was gathered.
-    fn change<L: Ledger>(
-        &mut self,
+    // The walk after a range of the tree is replaced with what was gathered.
+    fn after_change<L: Ledger>(
         alloc: Global,
+        tree: SumTree<Fragment>,
         gather: Gather,
         steps: &mut Steps<L>,
-    ) -> Result<(), OutOfMemory>
+    ) -> Result<Walk, OutOfMemory>
         requires order { gather.from ≤ gather.at }
-        requires within { gather.from ≤ length self.old.tree.items }
-        requires fit { Fit (so_far self.old.tree.items gather ++ ahead self.old.tree.items gather) }
-        ensures before { IfOk result (λ _. take self.new.at self.new.tree.items
-            ≡ so_far self.old.tree.items gather) }
-        ensures after { IfOk result (λ _. drop self.new.at self.new.tree.items
-            ≡ ahead self.old.tree.items gather) }
-        ensures within { IfOk result (λ _. self.new.at ≤ length self.new.tree.items) }
-        ensures place { IfOk result (λ _. self.new.place ≡ gather.place) }
-        ensures number { IfOk result (λ _. self.new.number ≡ gather.number) }
-        ensures index { IfOk result (λ _. self.new.index ≡ gather.index) }
+        requires within { gather.from ≤ length tree.items }
+        requires fit { Fit (so_far tree.items gather ++ ahead tree.items gather) }
+        ensures before { IfOk result (λ w. take w.at w.tree.items ≡ so_far tree.items gather) }
+        ensures after { IfOk result (λ w. drop w.at w.tree.items ≡ ahead tree.items gather) }
+        ensures within { IfOk result (λ w. w.at ≤ length w.tree.items) }
+        ensures place { IfOk result (λ w. w.place ≡ gather.place) }
+        ensures number { IfOk result (λ w. w.number ≡ gather.number) }
+        ensures index { IfOk result (λ w. w.index ≡ gather.index) }
         ensures cost { MakeFew steps.old steps.new gather.from gather.at
             (length gather.made.items + length (option_to_list gather.back)) }
     {
-        self.index = gather.index.share()?;
-        self.number = gather.number;
-        self.place = gather.place;
+        let mut tree = tree;
+        let index = gather.index;
         let at = put_back(
-            &mut self.tree,
+            &mut tree,
             alloc,
             gather.from,
             gather.at,
@@ -154,85 +150,88 @@ impl Walk {
             gather.back,
             steps,
         )?;
-        self.at = at;
-        Ok(())
+        Ok(Walk {
+            tree,
+            at,
+            place: gather.place,
+            number: gather.number,
+            index,
+        })
     }
 
     // Passes one piece, whose range begins after `count` more cells that the edit's version sees.
     fn piece<L: Ledger>(
-        &mut self,
+        self,
         alloc: Global,
         undos: &UndoMap,
         edit: &EditOp,
         count: u64,
         piece: &Piece,
         steps: &mut Steps<L>,
-    ) -> Result<(), OutOfMemory>
+    ) -> Result<Walk, OutOfMemory>
         requires unseen { sees edit.now.version edit.now.stamp ≡ false }
-        requires within { self.old.at ≤ length self.old.tree.items }
-        requires fit { Fit self.old.tree.items }
-        requires place { self.old.place ≡ seen_bytes edit.now.version
-            (take self.old.at self.old.tree.items) }
-        requires room { cells_len self.old.tree.items + length piece.now.text ≤ 2 ^ 40 }
-        requires numbers { self.old.number + length piece.now.text < 2 ^ 64 }
-        requires indexed { IsIndexed edit.now.stamp self.old.number self.old.tree.items
-            self.old.index }
-        ensures within { IfOk result (λ _. self.new.at ≤ length self.new.tree.items) }
-        ensures passed { IfOk result (λ _. IsAt edit.now.version
-            (one_piece undos.now edit.now.stamp edit.now.version count self.old.number piece.now
-            (take self.old.at self.old.tree.items) (drop self.old.at self.old.tree.items))
-            (cells_len self.old.tree.items + length piece.now.text)
-            (take self.new.at self.new.tree.items) (drop self.new.at self.new.tree.items)
-            self.new.place) }
-        ensures number { IfOk result (λ _. self.new.number
-            ≡ self.old.number + length piece.now.text) }
-        ensures indexed { IfOk result (λ _. IsIndexed edit.now.stamp self.new.number
-            self.new.tree.items self.new.index) }
-        ensures cost { AllSeen edit.now.version (drop self.old.at self.old.tree.items)
+        requires within { self.at ≤ length self.tree.items }
+        requires fit { Fit self.tree.items }
+        requires place { self.place ≡ seen_bytes edit.now.version (take self.at self.tree.items) }
+        requires room { cells_len self.tree.items + length piece.now.text ≤ 2 ^ 40 }
+        requires numbers { self.number + length piece.now.text < 2 ^ 64 }
+        requires indexed { IsIndexed edit.now.stamp self.number self.tree.items self.index }
+        ensures within { IfOk result (λ w. w.at ≤ length w.tree.items) }
+        ensures passed { IfOk result (λ w. IsAt edit.now.version
+            (one_piece undos.now edit.now.stamp edit.now.version count self.number piece.now
+            (take self.at self.tree.items) (drop self.at self.tree.items))
+            (cells_len self.tree.items + length piece.now.text)
+            (take w.at w.tree.items) (drop w.at w.tree.items) w.place) }
+        ensures number { IfOk result (λ w. w.number ≡ self.number + length piece.now.text) }
+        ensures indexed { IfOk result (λ w. IsIndexed edit.now.stamp w.number w.tree.items
+            w.index) }
+        ensures cost { AllSeen edit.now.version (drop self.at self.tree.items)
             → count ≤ 2 ^ 40 → steps.new ≤ steps.old + 256 * (1
             + starts (max 1 count) (count + (piece.now.end - piece.now.start))
-            (drop self.old.at self.old.tree.items)) }
+            (drop self.at self.tree.items)) }
     {
-        let left = self.seek(edit, count)?;
-        let gather = self.gather(alloc, undos, edit, left, piece)?;
-        self.change(alloc, gather, steps)
+        let mut walk = self;
+        let left = walk.seek(edit, count)?;
+        let (tree, gather) = walk.gather(alloc, undos, edit, left, piece)?;
+        Self::after_change(alloc, tree, gather, steps)
     }
 
     // Passes all pieces of the edit, from the start.
     fn pass_pieces<L: Ledger>(
-        &mut self,
+        self,
         alloc: Global,
         undos: &UndoMap,
         edit: &EditOp,
         steps: &mut Steps<L>,
-    ) -> Result<(), OutOfMemory>
-        requires start { self.old.at ≡ 0 }
-        requires place { self.old.place ≡ 0 }
-        requires number { self.old.number ≡ 0 }
-        requires fit { Fit self.old.tree.items }
+    ) -> Result<Walk, OutOfMemory>
+        requires start { self.at ≡ 0 }
+        requires place { self.place ≡ 0 }
+        requires number { self.number ≡ 0 }
+        requires fit { Fit self.tree.items }
         requires unseen { sees edit.now.version edit.now.stamp ≡ false }
-        requires room { cells_len self.old.tree.items + text_total edit.now.pieces ≤ 2 ^ 40 }
-        requires indexed { IsIndexed edit.now.stamp 0 self.old.tree.items self.old.index }
-        ensures walked { IfOk result (λ _. self.new.tree.items
+        requires room { cells_len self.tree.items + text_total edit.now.pieces ≤ 2 ^ 40 }
+        requires indexed { IsIndexed edit.now.stamp 0 self.tree.items self.index }
+        ensures walked { IfOk result (λ w. w.tree.items
             ≡ walk undos.now edit.now.stamp edit.now.version 0 0 edit.now.pieces
-            [] self.old.tree.items) }
-        ensures fit { IfOk result (λ _. Fit self.new.tree.items) }
-        ensures indexed { IfOk result (λ _. IsIndexed edit.now.stamp self.new.number
-            self.new.tree.items self.new.index) }
-        ensures cost { AllSeen edit.now.version self.old.tree.items
+            [] self.tree.items) }
+        ensures fit { IfOk result (λ w. Fit w.tree.items) }
+        ensures indexed { IfOk result (λ w. IsIndexed edit.now.stamp w.number w.tree.items
+            w.index) }
+        ensures cost { AllSeen edit.now.version self.tree.items
             → Ordered 0 (2 ^ 40) edit.now.pieces
             → steps.new ≤ steps.old + 256 * (length edit.now.pieces
-            + touch_count_behind 0 edit.now.pieces self.old.tree.items) }
+            + touch_count_behind 0 edit.now.pieces self.tree.items) }
     {
+        let mut walk = self;
         let mut place = 0;
         for piece in edit.pieces.as_slice() {
             if changes(piece) {
                 let count = piece.start.saturating_sub(place);
-                self.piece(alloc, undos, edit, count, piece, steps)?;
+                walk = walk.piece(alloc, undos, edit, count, piece, steps)?;
                 place = piece.end;
             }
         }
-        Ok(())
+        Ok(walk)
     }
 }
 
@@ -341,7 +340,7 @@ fn put<L: Ledger>(
     ensures cost { MakeFew steps.old steps.new from to (length fragments.items) }
 {
     tree.known();
-    tree.splice_counted(alloc, from, to, fragments, steps)?;
+    tree.exchange_counted(alloc, from, to, fragments, steps)?;
     Ok(())
 }
 
@@ -353,35 +352,35 @@ fn changes(piece: &Piece) -> bool
 }
 
 /// Walks over all pieces of an edit, and counts a step for each node made. If the edit has seen all fragments, there
-/// are at most 256 for each piece and each fragment that the ranges touch. Fails only if an allocation fails.
+/// are at most 256 for each piece and each fragment that the ranges touch. Nodes that no other tree shares change in
+/// place. Fails only if an allocation fails.
 pub fn walk_in<L: Ledger>(
     alloc: Global,
-    tree: &SumTree<Fragment>,
-    index: &InsertionIndex,
+    tree: SumTree<Fragment>,
+    index: InsertionIndex,
     undos: &UndoMap,
     edit: &EditOp,
     steps: &mut Steps<L>,
 ) -> Result<Walk, OutOfMemory>
-    requires fit { Fit tree.now.items }
+    requires fit { Fit tree.items }
     requires unseen { sees edit.now.version edit.now.stamp ≡ false }
-    requires room { cells_len tree.now.items + text_total edit.now.pieces ≤ 2 ^ 40 }
-    requires indexed { IsIndexed edit.now.stamp 0 tree.now.items index.now }
+    requires room { cells_len tree.items + text_total edit.now.pieces ≤ 2 ^ 40 }
+    requires indexed { IsIndexed edit.now.stamp 0 tree.items index }
     ensures walked { IfOk result (λ w. w.tree.items
-        ≡ walk undos.now edit.now.stamp edit.now.version 0 0 edit.now.pieces [] tree.now.items) }
+        ≡ walk undos.now edit.now.stamp edit.now.version 0 0 edit.now.pieces [] tree.items) }
     ensures fit { IfOk result (λ w. Fit w.tree.items) }
     ensures indexed { IfOk result (λ w. IsIndexed edit.now.stamp w.number w.tree.items w.index) }
-    ensures cost { AllSeen edit.now.version tree.now.items
+    ensures cost { AllSeen edit.now.version tree.items
         → Ordered 0 (2 ^ 40) edit.now.pieces
         → steps.new ≤ steps.old + 256 * (length edit.now.pieces
-        + touch_count_behind 0 edit.now.pieces tree.now.items) }
+        + touch_count_behind 0 edit.now.pieces tree.items) }
 {
-    let mut state = Walk {
-        tree: tree.share()?,
+    let start = Walk {
+        tree,
         at: 0,
         place: 0,
         number: 0,
-        index: index.share()?,
+        index,
     };
-    state.pass_pieces(alloc, undos, edit, steps)?;
-    Ok(state)
+    start.pass_pieces(alloc, undos, edit, steps)
 }

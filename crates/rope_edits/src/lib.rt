@@ -5,6 +5,6 @@ mod moving;
 mod ranges;
 mod side;
 
-pub use moving::{TextRopes, apply_moves};
+pub use moving::{TextRopes, apply_moves, apply_moves_into};
 pub use op_model::OutOfMemory;
 pub use ranges::{piece_fault, replace_ranges};

@@ -88,19 +88,19 @@ fn texts_of_pieces(alloc: Global, pieces: &[Piece]) -> Result<String, OutOfMemor
 // What moves make of two texts and of a new one.
 fn move_texts(
     alloc: Global,
-    shown: &Rope,
-    hidden: &Rope,
+    shown: Rope,
+    hidden: Rope,
     moves: &[Move],
     fresh: &str,
 ) -> Result<TextRopes, OutOfMemory>
-    requires texts { TakeTexts moves.now shown.now hidden.now fresh.now }
-    requires room { length shown.now + length hidden.now + length fresh.now ≤ 2 ^ 40 }
+    requires texts { TakeTexts moves.now shown hidden fresh.now }
+    requires room { length shown + length hidden + length fresh.now ≤ 2 ^ 40 }
     ensures { IfOk result (λ r. texts_of r.shown r.hidden
-        ≡ after_moves moves.now shown.now hidden.now fresh.now) }
+        ≡ after_moves moves.now shown hidden fresh.now) }
 {
     let mut sides = Sides {
-        shown: Side::new(alloc, shown)?,
-        hidden: Side::new(alloc, hidden)?,
+        shown: Side::new(alloc, shown),
+        hidden: Side::new(alloc, hidden),
         fresh,
     };
     for next in moves {
@@ -129,6 +129,28 @@ pub fn apply_moves(
     requires room { length shown.now + length hidden.now + text_total pieces.now ≤ 2 ^ 40 }
     ensures { IfOk result (λ r. texts_of r.shown r.hidden
         ≡ after_moves moves.now shown.now hidden.now (texts pieces.now)) }
+{
+    let shown = shown.share()?;
+    let hidden = hidden.share()?;
+    apply_moves_into(alloc, shown, hidden, moves, pieces)
+}
+
+/// Does what `apply_moves` does, to ropes that it takes whole: what nothing else shares changes in place.
+///
+/// # Errors
+///
+/// Fails only if an allocation fails. The ropes are dropped then.
+pub fn apply_moves_into(
+    alloc: Global,
+    shown: Rope,
+    hidden: Rope,
+    moves: &[Move],
+    pieces: &[Piece],
+) -> Result<TextRopes, OutOfMemory>
+    requires texts { TakeTexts moves.now shown hidden (texts pieces.now) }
+    requires room { length shown + length hidden + text_total pieces.now ≤ 2 ^ 40 }
+    ensures { IfOk result (λ r. texts_of r.shown r.hidden
+        ≡ after_moves moves.now shown hidden (texts pieces.now)) }
 {
     if let [piece] = pieces {
         return move_texts(alloc, shown, hidden, moves, piece.text.as_str());

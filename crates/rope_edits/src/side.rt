@@ -32,17 +32,16 @@ impl Model for Side {
 }
 
 impl Side {
-    /// Nothing is made of the rope's text. Its chunks are shared.
-    pub fn new(alloc: Global, rope: &Rope) -> Result<Side, OutOfMemory>
-        ensures { IfOk result (λ s. s ≡ side_start rope.now) }
+    /// Nothing is made of the rope's text.
+    pub fn new(alloc: Global, rope: Rope) -> Side
+        ensures { result ≡ side_start rope }
     {
         rope.known();
-        let rope = rope.share()?;
-        Ok(Side {
+        Side {
             alloc,
             rope,
             made: 0,
-        })
+        }
     }
 
     // Where the next bytes end, or all of them.

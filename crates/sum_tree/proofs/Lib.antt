@@ -24,3 +24,4 @@ mod Ends
 mod Ranges
 mod Besides
 pub mod Counts
+mod Exchanging

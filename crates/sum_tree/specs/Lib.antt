@@ -12,3 +12,4 @@ pub mod Spliced
 pub mod Keyed
 pub mod Around
 pub mod Placed
+pub mod Exchange

@@ -57,7 +57,7 @@ fn turn_run<X: Drop>(
 }
 
 // The same. If at most one element is replaced, by one or two, only the elements after it move.
-fn put_run<X: Drop>(
+pub(crate) fn put_run<X: Drop>(
     list: &mut Vec<X>,
     from: usize,
     to: usize,
@@ -186,7 +186,7 @@ fn put_pair<X: Drop>(
 
 // Replaces child k with a pair. If there is no room for one more child, leaves the children as they are and makes the
 // two nodes that are to replace their node. `sums` are the sums of the nodes on the path.
-fn pair_in_place<T: Item, L: Ledger>(
+pub(crate) fn pair_in_place<T: Item, L: Ledger>(
     alloc: Global,
     height: u32,
     children: &mut Vec<SumTree<T>>,

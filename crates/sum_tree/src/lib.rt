@@ -5,6 +5,7 @@ mod around;
 mod count;
 mod cut;
 mod entry;
+mod exchange;
 mod grow;
 mod here;
 mod keyed;
@@ -19,6 +20,7 @@ mod tree;
 
 pub use count::Count;
 pub use entry::Entry;
+pub use exchange::Exchange;
 pub use list::list_of_one;
 pub use parts::Parts;
 pub use read::child_at;

@@ -248,7 +248,7 @@ impl<T: Item> SumTree<T> {
     }
 
     // A tree with a range replaced by these entries.
-    fn with_splice<L: Ledger>(
+    pub(crate) fn with_splice<L: Ledger>(
         &self,
         alloc: Global,
         from: u64,
@@ -281,7 +281,7 @@ impl<T: Item> SumTree<T> {
     }
 
     // Replaces a range with these entries.
-    fn put_counted<L: Ledger>(
+    pub(crate) fn put_counted<L: Ledger>(
         &mut self,
         alloc: Global,
         from: u64,

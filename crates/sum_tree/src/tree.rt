@@ -174,7 +174,7 @@ impl<T: Item> SumTree<T> {
 }
 
 // The tree whose root is this node. Nodes are made only here, each with a step.
-fn tree_of<T: Item, L: Ledger>(
+pub(crate) fn tree_of<T: Item, L: Ledger>(
     alloc: Global,
     node: Node<T>,
     steps: &mut Steps<L>,

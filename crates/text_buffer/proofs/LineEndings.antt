@@ -1,12 +1,11 @@
 -- What edits of texts as they enter have in common with the texts as they were handed in.
-use Rattle.std.proofs.Common.{◌≡◌, ◌≢◌, ℕ, ◌+◌, ◌*◌, get_or, ◌<◌, ◌≤◌, Bool, true, false, cond, eqb, ltb, not, ◌&&◌, ◌||◌, List, [], ◌∷◌, length, map, refl, sym, ◌∙◌, ap, ap₂, subst, suc, arith, None, Some, Option}
+use Rattle.std.proofs.Common.{◌≡◌, ◌≢◌, ℕ, ◌+◌, ◌*◌, get_or, ◌<◌, ◌≤◌, Bool, true, false, cond, eqb, ltb, not, ◌&&◌, ◌||◌, List, [], ◌∷◌, length, map, refl, sym, ◌∙◌, ap, ap₂, subst, suc, arith, Some, Option}
 use Rattle.std.specs.Prelude.{option_map}
-use Rattle.std.specs.List.{AllByRecursion, list_any, position, position_from}
+use Rattle.std.specs.List.{list_any, position, position_from}
 use Rattle.std.proofs.lemmas.Bool.{or_parts, both_ways, eq-eqb, ne_eqb}
 use Rattle.std.proofs.lemmas.List.{length-map}
 use Rattle.std.proofs.lemmas.List.Folds.{list_any_at}
 use Rattle.std.proofs.lemmas.Iterator.Adapters.{position_from-zero}
-use Rattle.lamport_clock.specs.declared.stamp.Lamport.{Lamport}
 use Rattle.op_model.specs.declared.endings.Endings.{Endings}
 use Rattle.op_model.specs.declared.endings.Endings.TheVariants.{AsIs, Lf}
 use Rattle.op_model.specs.declared.faults.EditFault.TheVariants.{Reversed, Overlap, PastEnd, InsideChar}
@@ -15,8 +14,7 @@ use Rattle.op_model.specs.declared.operation.Piece.{Piece}
 use Rattle.op_model.specs.Choice.{first_of}
 use Rattle.op_model.specs.Edits.{is_reversed, is_past, is_inside, overlap_from, piece_fault}
 use Rattle.op_model.specs.Histories.{History, base}
-use Rattle.op_model.specs.Made.{full_piece, local_edit, local_undo}
-use Rattle.op_model.specs.Rules.{KeepsRule, has_return, lf, lf_after, pieces_under, rule_fault, text_under}
+use Rattle.op_model.specs.Rules.{KeepsRule, has_return, lf, lf_after, pieces_under, text_under}
 use Rattle.op_model.proofs.answers.Passed.{none_map, none_position}
 use Rattle.op_model.proofs.texts.Entering.{lf_clean, lf_none, lf_same}
 use Rattle.fragments.specs.declared.fragment.Fragment.{Fragment}
@@ -129,25 +127,8 @@ cost_under h e ps n k = record {
   cost = subst (λ (m : ℕ). n ≤ 256 * (m + 1) * (k.height + 1)) (ap₂ (λ (a b : ℕ). a + b) (length_under e ps) (touch_under e (fragments_of h) ps)) k.cost;
 }
 
--- ---- what is made keeps the rule
+-- ---- a base keeps the rule
 
-clean_pieces : (h : History) (ps : List Piece) → AllByRecursion (λ (p : Piece). has_return p ≡ false) (map (full_piece h) (map lf_piece ps))
-clean_pieces h [] = tt
-clean_pieces h (p ∷ ps) = (lf_clean p.text, clean_pieces h ps)
-
-pub edit_rule : (e : Endings) (h : History) (r : ℕ) (ps : List Piece) → rule_fault e (local_edit h r (pieces_under e ps)) ≡ None
-unfolding local_edit
-edit_rule AsIs h r ps = refl
-edit_rule Lf h r ps =
-    let qs : List Piece = map (full_piece h) (map lf_piece ps) in
-    none_map CarriageReturn (position has_return qs) (none_position has_return qs (clean_pieces h ps))
-
-pub undo_rule : (e : Endings) (h : History) (r : ℕ) (ts : List Lamport) → rule_fault e (local_undo h r ts) ≡ None
-unfolding local_undo
-undo_rule AsIs h r ts = refl
-undo_rule Lf h r ts = refl
-
--- so does a base
 pub base_rule : (e : Endings) (t : List ℕ) → KeepsRule e (base (text_under e t) ∷ [])
 base_rule AsIs t = (refl, tt)
 base_rule Lf t =

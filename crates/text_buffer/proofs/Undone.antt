@@ -25,7 +25,7 @@ use Rattle.undo_map.specs.Undos.{undo_entries}
 use Rattle.op_answers.specs.LocalUndo.{listed_fault}
 use Rattle.op_answers.proofs.LocalUndo.{local_of, room}
 use Rattle.text_buffer.specs.Buffer.{BufferState, IsBuffer, undo_fault, undo_of, rules}
-use Rattle.text_buffer.proofs.LineEndings.{undo_rule}
+use Rattle.op_model.proofs.settling.OpenedRuns.{undo_rule}
 use Rattle.text_buffer.proofs.Applied.{within_limits}
 
 -- the faults that come after those of the list

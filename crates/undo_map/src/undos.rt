@@ -19,7 +19,22 @@ impl UndoMap {
         ensures history { IfOk result (λ m. (h : History) → self.now ≡ undo_entries h
             → m ≡ undo_entries (h ++ Undo undo.now ∷ [])) }
     {
-        let mut map = self.share()?;
+        let map = self.share()?;
+        map.put_undo(alloc, undo)
+    }
+
+    /// Does what `with_undo` does, to this map, whose nodes change in place where no other map shares them.
+    ///
+    /// # Errors
+    ///
+    /// Fails only if an allocation fails. The map is dropped then.
+    pub fn put_undo(self, alloc: Global, undo: &UndoOp) -> Result<UndoMap, OutOfMemory>
+        requires { length self + length undo.now.counts ≤ 2 ^ 40 }
+        ensures counts { IfOk result (λ m. m ≡ with_counts undo.now.stamp undo.now.counts self) }
+        ensures history { IfOk result (λ m. (h : History) → self ≡ undo_entries h
+            → m ≡ undo_entries (h ++ Undo undo.now ∷ [])) }
+    {
+        let mut map = self;
         let counts = undo.counts.as_slice();
         for count in counts {
             map.set(alloc, count.edit, undo.stamp, count.count)?;

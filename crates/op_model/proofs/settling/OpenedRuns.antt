@@ -61,17 +61,17 @@ applied_more l h op m n g f =
 
 -- ---- what is made keeps the rule and the limits
 
-clean_pieces : (h : History) (ps : List Piece) → AllByRecursion (λ (p : Piece). has_return p ≡ false) (map (full_piece h) (map (λ (p : Piece). record { start = p.start; end = p.end; text = lf p.text }) ps))
+pub clean_pieces : (h : History) (ps : List Piece) → AllByRecursion (λ (p : Piece). has_return p ≡ false) (map (full_piece h) (map (λ (p : Piece). record { start = p.start; end = p.end; text = lf p.text }) ps))
 clean_pieces h [] = tt
 clean_pieces h (p ∷ ps) = (lf_clean p.text, clean_pieces h ps)
 
-edit_rule : (e : Endings) (h : History) (r : ℕ) (ps : List Piece) → rule_fault e (local_edit h r (pieces_under e ps)) ≡ None
+pub edit_rule : (e : Endings) (h : History) (r : ℕ) (ps : List Piece) → rule_fault e (local_edit h r (pieces_under e ps)) ≡ None
 unfolding local_edit
 edit_rule AsIs h r ps = refl
 edit_rule Lf h r ps = let qs : List Piece = map (full_piece h) (map (λ (p : Piece). record { start = p.start; end = p.end; text = lf p.text }) ps) in
     none_map CarriageReturn (position has_return qs) (none_position has_return qs (clean_pieces h ps))
 
-undo_rule : (e : Endings) (h : History) (r : ℕ) (ts : List Lamport) → rule_fault e (local_undo h r ts) ≡ None
+pub undo_rule : (e : Endings) (h : History) (r : ℕ) (ts : List Lamport) → rule_fault e (local_undo h r ts) ≡ None
 unfolding local_undo
 undo_rule AsIs h r ts = refl
 undo_rule Lf h r ts = refl

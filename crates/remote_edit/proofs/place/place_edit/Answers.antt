@@ -30,16 +30,16 @@ use Rattle.remote_edit.proofs.WholeFragments.{texts_are, placed_utf8}
 use Rattle.remote_edit.proofs.place.place_edit.Goals as goal
 
 pub walk_in-requires-clause-fit : goal.walk_in-requires-clause-fit
-walk_in-requires-clause-fit g c = (fit_start c.args.tree.now.items c.args.index.now c.args.undos.now (Edit c.args.op.now) c.requires).0
+walk_in-requires-clause-fit g c = (fit_start c.args.tree.items c.args.index c.args.undos.now (Edit c.args.op.now) c.requires).0
 
 pub walk_in-requires-clause-unseen : goal.walk_in-requires-clause-unseen
 walk_in-requires-clause-unseen g c = unseen_self c.requires.history (Edit c.args.op.now) c.requires.lawful c.requires.good
 
 pub walk_in-requires-clause-room : goal.walk_in-requires-clause-room
-walk_in-requires-clause-room g c = (fit_start c.args.tree.now.items c.args.index.now c.args.undos.now (Edit c.args.op.now) c.requires).1
+walk_in-requires-clause-room g c = (fit_start c.args.tree.items c.args.index c.args.undos.now (Edit c.args.op.now) c.requires).1
 
 pub walk_in-requires-clause-indexed : goal.walk_in-requires-clause-indexed
-walk_in-requires-clause-indexed g c = indexed_start c.args.tree.now.items c.args.index.now c.args.undos.now c.requires.history (Edit c.args.op.now) c.requires.stands c.requires.lawful c.requires.good
+walk_in-requires-clause-indexed g c = indexed_start c.args.tree.items c.args.index c.args.undos.now c.requires.history (Edit c.args.op.now) c.requires.stands c.requires.lawful c.requires.good
 
 pub edit_moves-requires-clause-shown : goal.edit_moves-requires-clause-shown
 edit_moves-requires-clause-shown g c =
@@ -47,15 +47,15 @@ edit_moves-requires-clause-shown g c =
     let e = c.args.op.now in
     let u = c.args.undos.now in
     let w = c.in_ok-walk.ensures in
-    let tells = walk_tells r.history (Edit e) c.args.tree.now.items r.lawful r.good refl r.stands.filled r.stands.cells in
+    let tells = walk_tells r.history (Edit e) c.args.tree.items r.lawful r.good refl r.stands.filled r.stands.cells in
     shown_by_counts (r.history ++ Edit e ∷ []) u c.in_ok-walk.walk.tree.items (r.stands.counts ∙ sym (entries_edit r.history (Edit e) refl)) w.fit.0
-    (subst (λ (z : List Fragment). Tell z (r.history ++ Edit e ∷ [])) (sym w.walked) (subst (λ (v : List UndoEntry). Tell (walk v e.stamp e.version 0 0 e.pieces [] c.args.tree.now.items) (r.history ++ Edit e ∷ [])) (sym r.stands.counts) tells))
+    (subst (λ (z : List Fragment). Tell z (r.history ++ Edit e ∷ [])) (sym w.walked) (subst (λ (v : List UndoEntry). Tell (walk v e.stamp e.version 0 0 e.pieces [] c.args.tree.items) (r.history ++ Edit e ∷ [])) (sym r.stands.counts) tells))
 
 pub edit_moves-requires-clause-brought : goal.edit_moves-requires-clause-brought
 edit_moves-requires-clause-brought g c =
     let r = c.requires in
     let e = c.args.op.now in
-    subst (Brings e.stamp 0 (length (texts e.pieces))) (sym c.in_ok-walk.ensures.walked) (brings r.history (Edit e) c.args.undos.now c.args.tree.now.items c.args.index.now r.stands r.lawful r.good)
+    subst (Brings e.stamp 0 (length (texts e.pieces))) (sym c.in_ok-walk.ensures.walked) (brings r.history (Edit e) c.args.undos.now c.args.tree.items c.args.index r.stands r.lawful r.good)
 
 pub returns-clause-fragments : goal.returns-clause-fragments
 returns-clause-fragments o c = c.in_ok-walk.ensures.walked
@@ -63,7 +63,7 @@ returns-clause-fragments o c = c.in_ok-walk.ensures.walked
 pub returns-clause-stands : goal.returns-clause-stands
 returns-clause-stands o c = λ h s l g.
     let e = c.args.op.now in
-    let fs = c.args.tree.now.items in
+    let fs = c.args.tree.items in
     let u = c.args.undos.now in
     let w = c.in_ok-walk.ensures in
     let tells = walk_tells h (Edit e) fs l g refl s.filled s.cells in
@@ -82,21 +82,21 @@ returns-clause-stands o c = λ h s l g.
 pub returns-clause-moves : goal.returns-clause-moves
 returns-clause-moves o c = λ h s l g.
     let e = c.args.op.now in
-    let fs = c.args.tree.now.items in
+    let fs = c.args.tree.items in
     let u = c.args.undos.now in
     let w = c.in_ok-walk.ensures in
     let gs : List Fragment = walk u e.stamp e.version 0 0 e.pieces [] fs in
     let tells = walk_tells h (Edit e) fs l g refl s.filled s.cells in
-    carried_texts h (Edit e) (before_edit u e.stamp gs) gs c.in_ok-moves.moves l g (told_before h (Edit e) u fs c.args.index.now s l g)
+    carried_texts h (Edit e) (before_edit u e.stamp gs) gs c.in_ok-moves.moves l g (told_before h (Edit e) u fs c.args.index s l g)
     (subst (λ (v : List UndoEntry). Tell (walk v e.stamp e.version 0 0 e.pieces [] fs) (h ++ Edit e ∷ [])) (sym s.counts) tells)
     (subst (λ (z : List Fragment). CarryOn e.stamp [] [] (before_edit u e.stamp z) 0 c.in_ok-moves.moves z [] (length (texts e.pieces))) w.walked c.in_ok-moves.ensures)
 
 pub returns-clause-characters : goal.returns-clause-characters
 returns-clause-characters o c = λ h s l p q g k.
     let e = c.args.op.now in
-    let fs = c.args.tree.now.items in
+    let fs = c.args.tree.items in
     let u = c.args.undos.now in
-    let i = c.args.index.now in
+    let i = c.args.index in
     let w = c.in_ok-walk.ensures in
     let gs : List Fragment = walk u e.stamp e.version 0 0 e.pieces [] fs in
     let next : History = h ++ Edit e ∷ [] in

@@ -1,6 +1,10 @@
-use Rattle.std.proofs.Common.{◌∙◌, ap, length, arith}
 use Rattle.rope_edits.proofs.moving.apply_moves.Goals as goal
-use Rattle.op_model.proofs.texts.Pieces.{total_is}
 
-pub move_texts-requires-2-clause-room : goal.move_texts-requires-2-clause-room
-move_texts-requires-2-clause-room c = let n = total_is c.args.pieces.now in let m = ap length (c.as_str-2.ensures.value ∙ c.in_ok-fresh.ensures) in let r = c.requires.room in omega (arith, n, m, r)
+pub apply_moves_into-requires-clause-texts : goal.apply_moves_into-requires-clause-texts
+apply_moves_into-requires-clause-texts c = rw (c.in_ok-shown.ensures, c.in_ok-hidden.ensures) c.requires.texts
+
+pub apply_moves_into-requires-clause-room : goal.apply_moves_into-requires-clause-room
+apply_moves_into-requires-clause-room c = rw (c.in_ok-shown.ensures, c.in_ok-hidden.ensures) c.requires.room
+
+pub returns : goal.returns
+returns c = rw (← c.in_ok-shown.ensures, ← c.in_ok-hidden.ensures) c.apply_moves_into.ensures

@@ -5,7 +5,7 @@ use Rattle.rope_edits.proofs.moving.move_texts.Given as goal
 
 abbrev pub invariant-loop-next : goal.invariant-loop-next
 invariant-loop-next l = record {
-  outcome : outcome l.sides (drop l.next-index l.moves) ≡ after_moves l.moves l.shown l.hidden l.fresh;
+  outcome : outcome l.sides (drop l.next-index l.moves) ≡ after_moves l.moves l.fn.shown l.fn.hidden l.fresh;
   takes : MayTake l.sides (drop l.next-index l.moves);
   room : sides_len l.sides ≤ 2 ^ 40;
 }

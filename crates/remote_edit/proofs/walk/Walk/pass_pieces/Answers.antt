@@ -9,16 +9,16 @@ use Rattle.remote_edit.proofs.Pieces.{walk_none, walk_one}
 use Rattle.remote_edit.proofs.Changing.{no_text}
 use Rattle.remote_edit.proofs.Budget.{IsOnBudget, budget_none, budget_near, budget_one, budget_end, budget_all, budget_touched, steps_by}
 use Rattle.remote_edit.proofs.walk.Walk.pass_pieces.Goals as goal
-use Rattle.remote_edit.proofs.walk.Walk.pass_pieces.Goals.{then-changes+in_ok-piece, else-changes}
+use Rattle.remote_edit.proofs.walk.Walk.pass_pieces.Goals.{then-changes+in_ok-walk, else-changes}
 
-pub returns-in_err-piece-clause-cost : goal.returns-in_err-piece-clause-cost
-returns-in_err-piece-clause-cost g c = λ a o.
+pub returns-in_err-walk-clause-cost : goal.returns-in_err-walk-clause-cost
+returns-in_err-walk-clause-cost g c = λ a o.
     let v = c.args.edit.now.version in
     let i = c.loop-piece.invariant in
-    let s = c.loop-piece.self in
+    let s = c.loop-piece.walk in
     let at = c.loop-piece.place in
     let p : Piece = c.piece-item.result in
-    let fs : List Fragment = c.args.self.now.tree.items in
+    let fs : List Fragment = c.args.self.tree.items in
     let ps : List Piece = c.args.edit.now.pieces in
     let items : List Piece = c.as_slice-piece-items.result.now in
     let qs : List Piece = drop (c.loop-piece.piece-index + 1) items in
@@ -36,10 +36,10 @@ loop-piece-preserved g c =
     let t = e.stamp in
     let v = e.version in
     let i = c.loop-piece.invariant in
-    let s = c.loop-piece.self in
+    let s = c.loop-piece.walk in
     let at = c.loop-piece.place in
     let p : Piece = c.piece-item.result in
-    let fs : List Fragment = c.args.self.now.tree.items in
+    let fs : List Fragment = c.args.self.tree.items in
     let ps : List Piece = e.pieces in
     let items : List Piece = c.as_slice-piece-items.result.now in
     let qs : List Piece = drop (c.loop-piece.piece-index + 1) items in
@@ -51,14 +51,14 @@ loop-piece-preserved g c =
     let q : drop c.loop-piece.piece-index items ≡ p ∷ qs = next_piece items c.loop-piece.piece-index p c.loop-piece-test.true c.piece-item.is in
     let total : text_total (drop c.loop-piece.piece-index items) ≡ length p.text + text_total qs = ap text_total q in
     elim c.if-changes.branch [
-      | then-changes+in_ok-piece w ↦ (let f = w.in_ok-piece.ensures in
-          let d = w.piece.new.self in
+      | then-changes+in_ok-walk w ↦ (let f = w.in_ok-walk.ensures in
+          let d = w.in_ok-walk.walk in
           let n = w.piece.new.steps in
           let ys : List Fragment = d.tree.items in
           let k = w.saturating_sub-count.ensures in
           let whole : take d.at ys ++ drop d.at ys ≡ ys = take-append-drop d.at ys in
           let z = f.passed.goes ∙ ap (λ (m : ℕ). one_piece u t v m s.number p pre rest) k in
-          rw (w.self-is, w.steps-is, w.place-is) (record {
+          rw (w.walk-is, w.steps-is, w.place-is) (record {
             seen = f.passed.place;
             goes = ap (λ (m : ℕ). walk u t v p.end m qs (take d.at ys) (drop d.at ys)) f.number
                 ∙ sym (walk_one u t v at s.number p qs pre rest (take d.at ys) (drop d.at ys) (sym c.changes.ensures ∙ w.if-changes.true) z)
@@ -74,7 +74,7 @@ loop-piece-preserved g c =
           }))
       | else-changes w ↦ (let no = sym c.changes.ensures ∙ w.if-changes.false in
           let none = no_text p no in
-          rw (w.self-is, w.steps-is, w.place-is) (record {
+          rw (w.walk-is, w.steps-is, w.place-is) (record {
             seen = i.seen;
             goes = sym (walk_none u t v at s.number p qs pre rest no) ∙ ap (λ (l : List Piece). walk u t v at s.number l pre rest) (sym q) ∙ i.goes;
             budget = λ a o. budget_none v fs ps at rest p qs old new (subst (λ (l : List Piece). IsOnBudget v fs ps at rest l old new) q (i.budget a o));
@@ -89,5 +89,5 @@ loop-piece-preserved g c =
 pub returns-clause-cost : goal.returns-clause-cost
 returns-clause-cost g c = λ a o.
     let l = c.loop-piece in
-    budget_touched c.args.self.now.tree.items c.args.edit.now.pieces c.args.steps.now l.steps c.requires.fit.0 o
-    (budget_all c.args.edit.now.version c.args.self.now.tree.items c.args.edit.now.pieces l.place (drop l.self.at l.self.tree.items) (drop l.piece-index c.as_slice-piece-items.result.now) c.args.steps.now l.steps (l.invariant.budget a o))
+    budget_touched c.args.self.tree.items c.args.edit.now.pieces c.args.steps.now l.steps c.requires.fit.0 o
+    (budget_all c.args.edit.now.version c.args.self.tree.items c.args.edit.now.pieces l.place (drop l.walk.at l.walk.tree.items) (drop l.piece-index c.as_slice-piece-items.result.now) c.args.steps.now l.steps (l.invariant.budget a o))

@@ -5,7 +5,8 @@ use Rattle.op_model.specs.Made.{local_edit, local_edit_fault}
 use Rattle.op_model.specs.Rules.{rule_fault}
 use Rattle.op_model.specs.Shown.{text}
 use Rattle.text_buffer.specs.Buffer.{after_apply}
-use Rattle.text_buffer.proofs.LineEndings.{edit_rule, same_pieces}
+use Rattle.op_model.proofs.settling.OpenedRuns.{edit_rule}
+use Rattle.text_buffer.proofs.LineEndings.{same_pieces}
 use Rattle.text_buffer.proofs.buffer.Buffer.make_edit.Goals as goal
 
 pub make_entered-requires-clause-faultless : goal.make_entered-requires-clause-faultless

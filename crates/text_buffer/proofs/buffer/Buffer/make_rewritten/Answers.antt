@@ -7,7 +7,8 @@ use Rattle.op_model.specs.Shown.{text}
 use Rattle.text_buffer.specs.Buffer.{BufferState, after_apply}
 use Rattle.text_buffer.specs.Costs.{IsEditCost}
 use Rattle.text_buffer.proofs.Costs.{kept_cost}
-use Rattle.text_buffer.proofs.LineEndings.{cost_under, edit_rule, rewritten_pieces}
+use Rattle.op_model.proofs.settling.OpenedRuns.{edit_rule}
+use Rattle.text_buffer.proofs.LineEndings.{cost_under, rewritten_pieces}
 use Rattle.text_buffer.proofs.buffer.Buffer.make_rewritten.Goals as goal
 
 pub make_entered-requires-clause-faultless : goal.make_entered-requires-clause-faultless

@@ -1,4 +1,5 @@
-use Rattle.remote_edit.proofs.walk.Walk.change.Goals as goal
+use Rattle.std.proofs.Common.{refl}
+use Rattle.remote_edit.proofs.walk.Walk.after_change.Goals as goal
 
 pub put_back-requires-clause-order : goal.put_back-requires-clause-order
 put_back-requires-clause-order g c = c.requires.order
@@ -14,3 +15,9 @@ returns-clause-before g c = c.in_ok-at.ensures.before
 
 pub returns-clause-after : goal.returns-clause-after
 returns-clause-after g c = c.in_ok-at.ensures.after
+
+pub same-tree : goal.same-tree
+same-tree g c = refl
+
+pub same-index : goal.same-index
+same-index g c = refl

@@ -1,4 +1,4 @@
-use Rattle.remote_edit.proofs.place.place_remote.Given as goal
+use Rattle.remote_edit.proofs.place.place_remote_into.Given as goal
 
 abbrev pub ghosts-place_with : goal.ghosts-place_with
 ghosts-place_with a = record { name = a.blank.name; parts = a.blank.parts }
