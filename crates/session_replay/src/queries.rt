@@ -234,6 +234,7 @@ impl Progress {
             SessionLine::Where { .. } => Ok(None),
             SessionLine::Mark { .. } => Ok(None),
             SessionLine::Since { .. } => Ok(None),
+            SessionLine::Reopen { .. } => Ok(None),
             SessionLine::Find { replica, needle } => self.answer_find(
                 alloc, number, *replica, needle,
             ),
