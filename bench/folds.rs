@@ -1,4 +1,4 @@
-//! Spans of folds in plain Rust, the same as `bench folds` of `crates/bench` works on: usage `folds COUNT`. They lie in an `Arc` B-tree whose
+//! Spans of folds in plain Rust, the same as `tree_bench folds` of `crates/tree_bench` works on: usage `folds COUNT`. They lie in an `Arc` B-tree whose
 //! nodes hold 6 to 12 entries and the sum of what lies below them, an entry being a span with its sum behind an `Arc`, as in the proved tree.
 //! Nodes that nobody shares are changed in place, and failed allocations are not reported.
 use std::sync::Arc;

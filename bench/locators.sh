@@ -11,8 +11,8 @@ trap 'rm -rf "$work"' EXIT
 rustc -O --edition 2021 -o "$work/locators" "$here/locators.rs"
 proved=${BENCH:-}
 if [ -z "$proved" ]; then
-    (cd "$here/../crates/bench" && rt run -- locators </dev/null >/dev/null)
-    proved=$here/../crates/bench/out/bench
+    (cd "$here/../crates/tree_bench" && rt run -- locators </dev/null >/dev/null)
+    proved=$here/../crates/tree_bench/out/tree_bench
 fi
 [ -x "$proved" ] || { echo "no program $proved: name it in BENCH" >&2; exit 1; }
 for pattern in ${trace:+typing} random front before after turns twice; do

@@ -1,4 +1,4 @@
-// libstdc++'s rope, with those works of `bench rope` of `crates/bench` that it can do: usage: rope BYTES COUNT
+// libstdc++'s rope, with those works of `tree_bench rope` of `crates/tree_bench` that it can do: usage: rope BYTES COUNT
 #include <ext/rope>
 
 #include <algorithm>

@@ -1,4 +1,4 @@
-//! A plain rope in Rust, with the works of `bench rope` of `crates/bench`: usage: rope BYTES COUNT
+//! A plain rope in Rust, with the works of `tree_bench rope` of `crates/tree_bench`: usage: rope BYTES COUNT
 //!
 //! It is a copy-on-write B-tree of at most 12 entries a node behind `Arc`, over chunks of at most 128 bytes. A node that
 //! loses entries is dropped when it is empty and not merged before, and it refuses nothing on want of memory.

@@ -12,8 +12,8 @@ rustc -O --edition 2021 -o "$work/plain" "$here/rope.rs"
 g++ -O2 -w -o "$work/crope" "$here/rope.cc"
 proved=${BENCH:-}
 if [ -z "$proved" ]; then
-    (cd "$here/../crates/bench" && rt run -- rope 1000 10 >/dev/null)
-    proved=$here/../crates/bench/out/bench
+    (cd "$here/../crates/tree_bench" && rt run -- rope 1000 10 >/dev/null)
+    proved=$here/../crates/tree_bench/out/tree_bench
 fi
 [ -x "$proved" ] || { echo "no program $proved: name it in BENCH" >&2; exit 1; }
 round=0

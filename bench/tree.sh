@@ -10,8 +10,8 @@ trap 'rm -rf "$work"' EXIT
 rustc -O --edition 2021 -o "$work/peer" "$here/tree.rs"
 proved=${BENCH:-}
 if [ -z "$proved" ]; then
-    (cd "$here/../crates/bench" && rt run -- tree 1 >/dev/null)
-    proved=$here/../crates/bench/out/bench
+    (cd "$here/../crates/tree_bench" && rt run -- tree 1 >/dev/null)
+    proved=$here/../crates/tree_bench/out/tree_bench
 fi
 [ -x "$proved" ] || { echo "no program $proved: name it in BENCH" >&2; exit 1; }
 round=0

@@ -89,7 +89,7 @@ function replayed () {
   if (global.gc) process.stderr.write(`held ${heap() - before} bytes by ${replicas.size} documents\n`)
 }
 
-// The generator of crates/bench.
+// The generator of crates/bench_reports.
 const step = x => BigInt.asUintN(64, x * 6364136223846793005n + 1442695040888963407n)
 
 const drawn = (x, n) => Number((x >> 20n) % BigInt(Math.max(n, 1)))

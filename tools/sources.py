@@ -45,8 +45,8 @@ def crate_names() -> list[str]:
 
 
 def is_library(name: str) -> bool:
-    """Whether others can use the crate, and it is not one of tests."""
-    return (CRATES / name / "src/lib.rt").exists() and not name.endswith("_tests")
+    """Whether others can use the crate, and it is not one of tests or of programs that are timed."""
+    return (CRATES / name / "src/lib.rt").exists() and not name.endswith(("_tests", "_reports"))
 
 
 def _head(lines: list[str]) -> str:

@@ -1,8 +1,8 @@
 //! Buffers, and works on them: snapshots, edits, undos, anchors, and operations that wait and are forgotten.
 ghost use Rattle.std.specs.Prelude.{◌≤◌};
 
-use crate::report::{Answer, Done, Report, step};
-use crate::rope::{long_text, short_text};
+use crate::carets;
+use bench_reports::{Answer, Done, Report, long_text, short_text, step};
 use lamport_clock::{Lamport, Version};
 use op_model::{EditOp, Operation, Piece, Pieces, Text};
 use std::alloc::Global;
@@ -15,7 +15,8 @@ const EDITS: u32 = 200;
 
 const ANCHORS: u64 = 10_000;
 
-// A letter put at random, also while there is a snapshot, up to 4 bytes replaced by 1 to 8, or a letter put after the last one.
+// A letter put at random, also while there is a snapshot, up to 4 bytes replaced by 1 to 8, or a letter put after the
+// last one.
 #[derive(Clone, Copy)]
 enum Change {
     Letter,
@@ -24,34 +25,59 @@ enum Change {
     Typed,
 }
 
-/// A replica's buffer over a text of `bytes` bytes.
-pub fn open(alloc: Global, replica: u16, bytes: u32) -> Result<Buffer, OutOfMemory>
+/// A replica's buffer over a text. Any fault of a call here would be a failed allocation.
+pub fn open(alloc: Global, replica: u16, base: &str) -> Result<Buffer, OutOfMemory>
     requires least { 1 ≤ replica }
     requires greatest { replica ≤ 1023 }
 {
-    let base = long_text(alloc, bytes, false)?;
-    Buffer::new(alloc, replica, base.as_str(), Limits::MOST).or(Err(OutOfMemory))
+    Buffer::new(alloc, replica, base, Limits::MOST).or(Err(OutOfMemory))
 }
 
-/// The work that a word names, if it names one. Some need a buffer of about `size` fragments: letters are put into it at random.
+/// The same over a text of `bytes` bytes.
+pub fn open_long(alloc: Global, replica: u16, bytes: u32) -> Result<Buffer, OutOfMemory>
+    requires least { 1 ≤ replica }
+    requires greatest { replica ≤ 1023 }
+{
+    open(alloc, replica, long_text(alloc, bytes, false)?.as_str())
+}
+
+fn edit(buffer: &mut Buffer, pieces: &[Piece]) -> Result<Operation, OutOfMemory> {
+    buffer.edit_uncounted(pieces).or(Err(OutOfMemory))
+}
+
+/// Takes an operation.
+pub fn take(buffer: &mut Buffer, op: Operation) -> Result<Took, OutOfMemory> {
+    buffer.take(op).or(Err(OutOfMemory))
+}
+
+/// Puts a text in the place of a range.
+pub fn replace(alloc: Global, buffer: &mut Buffer, start: u64, end: u64, text: &str) -> Done {
+    let text = Text::new(String::from_str(alloc, text)?);
+    edit(buffer, &[Piece::new(start, end, text)])?;
+    Ok(())
+}
+
+/// The work that a word names, if it names one. Some need a buffer of about `size` fragments: letters are put into it
+/// at random.
 pub fn works(report: &mut Report<'_>, work: &str, size: u32) -> Done {
     let (bytes, letters) = match work {
         "snapshot" => (size, 0),
         "forget" => (8, 0),
-        "anchors" | "edits" | "undo" => (size.saturating_mul(8), size / 2),
+        "anchors" | "edits" | "selections" | "undo" => (size.saturating_mul(8), size / 2),
         _ => return Ok(()),
     };
-    let mut buffer = open(report.rt.alloc(), 1, bytes)?;
+    let mut buffer = open_long(report.alloc(), 1, bytes)?;
     time(report, &mut buffer, work, size, letters)
 }
 
 fn time(report: &mut Report<'_>, buffer: &mut Buffer, work: &str, size: u32, letters: u32) -> Done {
-    make(report.rt.alloc(), buffer, Change::Letter, letters)?;
+    make(report.alloc(), buffer, Change::Letter, letters)?;
     match work {
         "snapshot" => snapshots(report, buffer),
         "forget" => forgets(report, buffer, size),
         "edits" => edits(report, buffer, size),
         "anchors" => anchors(report, buffer),
+        "selections" => carets::works(report, &buffer.snapshot()?),
         _ => undos(report, buffer),
     }
 }
@@ -75,14 +101,7 @@ fn put(alloc: Global, buffer: &mut Buffer, at: u64, gone: u64, text: &str) -> Do
     let len = buffer.summary().len;
     let start = at % len.max(1);
     let end = start.saturating_add(gone).min(len).max(start);
-    let text = Text::new(String::from_str(alloc, text)?);
-    edit(buffer, &[Piece::new(start, end, text)])?;
-    Ok(())
-}
-
-// Any fault of a call here would be a failed allocation.
-fn edit(buffer: &mut Buffer, pieces: &[Piece]) -> Result<Operation, OutOfMemory> {
-    buffer.edit_uncounted(pieces).or(Err(OutOfMemory))
+    replace(alloc, buffer, start, end, text)
 }
 
 // Puts a letter while there is a snapshot.
@@ -91,15 +110,16 @@ fn put_beside(alloc: Global, buffer: &mut Buffer, at: u64) -> Done {
     put(alloc, buffer, at, 0, "a")
 }
 
-// Takes snapshots of a buffer, and edits it while there is a snapshot and while there is none: the lengths of the text.
+// Takes snapshots of a buffer, and edits it while there is a snapshot and while there is none: the lengths of the
+// text.
 fn snapshots(report: &mut Report<'_>, buffer: &mut Buffer) -> Done {
     report.begin();
     report.sum("Snapshots", 100_000, |_| {
         buffer.snapshot().map_or(0, |it| it.applied().len())
     });
-    make(report.rt.alloc(), buffer, Change::Shared, 4)?;
+    make(report.alloc(), buffer, Change::Shared, 4)?;
     report.add("SnapshotEdits", buffer.summary().len);
-    make(report.rt.alloc(), buffer, Change::Letter, 4)?;
+    make(report.alloc(), buffer, Change::Letter, 4)?;
     report.add("Edits", buffer.summary().len);
     Ok(())
 }
@@ -107,20 +127,20 @@ fn snapshots(report: &mut Report<'_>, buffer: &mut Buffer) -> Done {
 // Edits at random places and then typed ones, which another replica then takes: the lengths of the text.
 fn edits(report: &mut Report<'_>, author: &mut Buffer, fragments: u32) -> Done {
     report.begin();
-    make(report.rt.alloc(), author, Change::Random, EDITS)?;
+    make(report.alloc(), author, Change::Random, EDITS)?;
     report.add("RandomLocal", author.summary().len);
-    make(report.rt.alloc(), author, Change::Typed, EDITS)?;
+    make(report.alloc(), author, Change::Typed, EDITS)?;
     report.add("TypedLocal", author.summary().len);
-    let mut buffer = open(report.rt.alloc(), 2, fragments.saturating_mul(8))?;
+    let mut buffer = open_long(report.alloc(), 2, fragments.saturating_mul(8))?;
     takes(report, &mut buffer, author)
 }
 
 fn takes(report: &mut Report<'_>, buffer: &mut Buffer, author: &Buffer) -> Done {
-    take_all(report.rt.alloc(), buffer, author, 2 * EDITS as u64)?;
+    take_all(report.alloc(), buffer, author, 2 * EDITS as u64)?;
     report.begin();
-    take_all(report.rt.alloc(), buffer, author, EDITS as u64)?;
+    take_all(report.alloc(), buffer, author, EDITS as u64)?;
     report.add("RandomRemote", buffer.summary().len);
-    take_all(report.rt.alloc(), buffer, author, 0)?;
+    take_all(report.alloc(), buffer, author, 0)?;
     report.add("TypedRemote", buffer.summary().len);
     Ok(())
 }
@@ -135,14 +155,10 @@ fn take_all(alloc: Global, buffer: &mut Buffer, author: &Buffer, last: u64) -> D
     Ok(())
 }
 
-fn take(buffer: &mut Buffer, op: Operation) -> Result<Took, OutOfMemory> {
-    buffer.take(op).or(Err(OutOfMemory))
-}
-
 // Deletes one byte, 100 and 10,000 single bytes, and undoes each of these edits ten times: the lengths of the text.
 fn undos(report: &mut Report<'_>, buffer: &mut Buffer) -> Done {
     for (name, count) in [("Undo1", 1), ("Undo100", 100), ("Undo10000", 10_000)] {
-        let edit = delete(report.rt.alloc(), buffer, count)?;
+        let edit = delete(report.alloc(), buffer, count)?;
         report.begin();
         for _ in 0..10 {
             buffer.undo(&[edit]).or(Err(OutOfMemory))?;
@@ -167,9 +183,9 @@ fn delete(alloc: Global, buffer: &mut Buffer, count: u64) -> Result<Lamport, Out
 
 // Takes and forgets `count` operations, one after the other, while 1,000 others wait: how many were forgotten.
 fn forgets(report: &mut Report<'_>, buffer: &mut Buffer, count: u32) -> Done {
-    defer(report.rt.alloc(), buffer, 4, 1_000)?;
+    defer(report.alloc(), buffer, 4, 1_000)?;
     report.begin();
-    report.add("Forgets", defer(report.rt.alloc(), buffer, 2, count)?);
+    report.add("Forgets", defer(report.alloc(), buffer, 2, count)?);
     Ok(())
 }
 
@@ -195,7 +211,8 @@ fn early(alloc: Global, stamp: Lamport) -> Result<Operation, OutOfMemory> {
     }))
 }
 
-// Works on many anchors, on a hundred of them again and again, as a program does that shows the same carets, and on a row.
+// Works on many anchors, on a hundred of them again and again, as a program does that shows the same carets, and on a
+// row.
 fn anchors(report: &mut Report<'_>, buffer: &Buffer) -> Done {
     let snapshot = buffer.snapshot()?;
     ask_drawn(report, &snapshot)?;
@@ -204,7 +221,7 @@ fn anchors(report: &mut Report<'_>, buffer: &Buffer) -> Done {
 
 fn ask_drawn(report: &mut Report<'_>, snapshot: &Snapshot) -> Done {
     report.begin();
-    let anchors = draw(report.rt.alloc(), snapshot, false)?;
+    let anchors = draw(report.alloc(), snapshot, false)?;
     report.add("Anchors", anchors.len() as u64);
     report.sum("Resolve", 10, |_| places(snapshot, &anchors));
     report.sum("Compare", 10, |_| count_ascents(snapshot, &anchors));
@@ -215,7 +232,7 @@ fn ask_drawn(report: &mut Report<'_>, snapshot: &Snapshot) -> Done {
 }
 
 fn ask_row(report: &mut Report<'_>, snapshot: &Snapshot) -> Done {
-    let row = draw(report.rt.alloc(), snapshot, true)?;
+    let row = draw(report.alloc(), snapshot, true)?;
     report.begin();
     report.sum("ResolveRow", 10, |_| places(snapshot, &row));
     Ok(())

@@ -1,6 +1,6 @@
 //! Works in buffers that keep line endings as they come, and in those that have LFs alone.
-use crate::report::{Answer, Done, Report};
-use op_model::{Piece, Text};
+use crate::buffers::{self, replace};
+use bench_reports::{Answer, Done, Report};
 use std::alloc::Global;
 use sum_tree::OutOfMemory;
 use text_buffer::{Buffer, Endings, Limits};
@@ -21,7 +21,7 @@ fn rows(alloc: Global, bytes: u32, ending: &str) -> Result<String, OutOfMemory> 
 
 fn open(alloc: Global, endings: Endings, base: &str) -> Result<Buffer, OutOfMemory> {
     match endings {
-        Endings::AsIs => Buffer::new(alloc, 1, base, Limits::MOST).or(Err(OutOfMemory)),
+        Endings::AsIs => buffers::open(alloc, 1, base),
         Endings::Lf => Buffer::new_lf(alloc, 1, base, Limits::MOST).or(Err(OutOfMemory)),
     }
 }
@@ -30,19 +30,16 @@ fn open_len(alloc: Global, endings: Endings, base: &str) -> Answer {
     Ok(open(alloc, endings, base)?.summary().len)
 }
 
-// Puts a letter at the end of the text.
-fn type_letter(alloc: Global, buffer: &mut Buffer, letter: &str) -> Done {
-    let end = buffer.summary().len;
-    let text = Text::new(String::from_str(alloc, letter)?);
-    let _made = buffer
-        .edit_uncounted(&[Piece::new(end, end, text)])
-        .or(Err(OutOfMemory))?;
-    Ok(())
-}
-
 fn type_all(alloc: Global, buffer: &mut Buffer, edits: u32) -> Done {
     for n in 0..edits {
-        type_letter(alloc, buffer, if n % 60 == 59 { "\n" } else { "a" })?;
+        let end = buffer.summary().len;
+        replace(
+            alloc,
+            buffer,
+            end,
+            end,
+            if n % 60 == 59 { "\n" } else { "a" },
+        )?;
     }
     Ok(())
 }
@@ -54,30 +51,20 @@ fn typed_len(alloc: Global, endings: Endings, edits: u32) -> Answer {
     Ok(buffer.summary().len)
 }
 
-fn opens(report: &mut Report<'_>, base: &str, returns: &str) -> Done {
-    report.begin();
-    report.add(
-        "OpenAsIs",
-        open_len(report.rt.alloc(), Endings::AsIs, base)?,
-    );
-    report.add("OpenLf", open_len(report.rt.alloc(), Endings::Lf, base)?);
-    report.add(
-        "OpenReturns",
-        open_len(report.rt.alloc(), Endings::Lf, returns)?,
-    );
-    Ok(())
-}
-
 /// Buffers are opened over texts of about `bytes` bytes, in rows of 60, without CR and with a CR LF in each row, and
 /// `edits` letters are typed: the lengths of the texts.
 pub fn works(report: &mut Report<'_>, bytes: u32, edits: u32) -> Done {
-    let base = rows(report.rt.alloc(), bytes, "\n")?;
-    let returns = rows(report.rt.alloc(), bytes, "\r\n")?;
-    opens(report, base.as_str(), returns.as_str())?;
+    let alloc = report.alloc();
+    let base = rows(alloc, bytes, "\n")?;
+    let returns = rows(alloc, bytes, "\r\n")?;
+    report.begin();
+    report.add("OpenAsIs", open_len(alloc, Endings::AsIs, base.as_str())?);
+    report.add("OpenLf", open_len(alloc, Endings::Lf, base.as_str())?);
     report.add(
-        "TypeAsIs",
-        typed_len(report.rt.alloc(), Endings::AsIs, edits)?,
+        "OpenReturns",
+        open_len(alloc, Endings::Lf, returns.as_str())?,
     );
-    report.add("TypeLf", typed_len(report.rt.alloc(), Endings::Lf, edits)?);
+    report.add("TypeAsIs", typed_len(alloc, Endings::AsIs, edits)?);
+    report.add("TypeLf", typed_len(alloc, Endings::Lf, edits)?);
     Ok(())
 }

@@ -1,28 +1,22 @@
-//! Works that are timed: `bench WORK NUMBER..`, with `timed` as the last word for the microseconds of each. Its answer is
-//! written in any case, so that scripts can compare it. The works are `tree ITEMS`, `rope BYTES TIMES`, `search BYTES`,
-//! `snapshot BYTES`, `publish BYTES TIMES`, `edits`, `undo` and `anchors FRAGMENTS`, `forget COUNT`, `folds COUNT`,
-//! `endings BYTES EDITS`, `opened` and `taken COUNT [KIND]`, and `locators`, at places that the standard input names. A command line may
-//! name several.
+//! Works on buffers, timed: `bench WORK NUMBER..`, with `timed` as the last word for the microseconds of each. Its
+//! answer is written in any case, so that scripts can compare it. A command line may name several of these works:
+//!
+//! - `snapshot BYTES`, `publish BYTES TIMES`, `forget COUNT` and `endings BYTES EDITS`;
+//! - `edits`, `undo`, `anchors` and `selections`, each with FRAGMENTS;
+//! - `opened`, `taken` and `dropped`, each with COUNT [KIND], and `refused COUNT`.
 #![tactic(auto)]
 
 mod buffers;
+mod carets;
 mod endings;
-mod folds;
-mod naming;
 mod openings;
 mod publish;
-mod report;
-mod rope;
-mod tree;
 
-use report::Report;
+use bench_reports::{Report, number, words};
+use openings::Way;
+use std::io;
 use std::sync::Wait;
 use std::thread::Threads;
-use std::{env, io};
-
-fn number(words: &[String], at: usize) -> u32 {
-    words.get(at).map_or(0, |word| word.parse().unwrap_or(0))
-}
 
 // Does the work that the first word names, if it names one.
 fn work<R: Threads + Wait + Sync>(
@@ -30,25 +24,21 @@ fn work<R: Threads + Wait + Sync>(
     report: &mut Report<'_>,
     words: &[String],
 ) -> io::Result<()> {
-    let size = number(words, 1);
+    let (size, times) = (number(words, 1), number(words, 2));
     match words.first().map_or("", |word| word.as_str()) {
-        "locators" => naming::works(report),
-        "tree" => Ok(tree::works(report, size)?),
-        "rope" => Ok(rope::works(report, size, number(words, 2))?),
-        "search" => Ok(rope::searches(rt, report, size)?),
-        "folds" => Ok(folds::works(report, size)?),
-        "endings" => Ok(endings::works(report, size, number(words, 2))?),
-        "opened" => Ok(openings::works(report, true, size, number(words, 2))?),
-        "taken" => Ok(openings::works(report, false, size, number(words, 2))?),
-        "publish" => Ok(publish::works(rt, report, size, number(words, 2))?),
+        "endings" => Ok(endings::works(report, size, times)?),
+        "opened" => Ok(openings::works(report, Way::Open, size, times)?),
+        "taken" => Ok(openings::works(report, Way::Take, size, times)?),
+        "dropped" => Ok(openings::works(report, Way::Drop, size, times)?),
+        "refused" => Ok(openings::refusals(report, size)?),
+        "publish" => Ok(publish::works(rt, report, size, times)?),
         work => Ok(buffers::works(report, work, size)?),
     }
 }
 
 fn main(rt: HostRuntime) -> io::Result<()> {
-    let words: Vec<String> = env::args(&rt)?.skip(1).collect(rt.alloc())?;
-    let timed = words.last().is_some_and(|word| word.as_str() == "timed");
-    let mut report = Report::new(&rt, timed)?;
+    let words = words(&rt)?;
+    let mut report = Report::new(&rt, &words)?;
     for at in 0..words.len() {
         work(&rt, &mut report, &words[at..])?;
     }

@@ -1,22 +1,23 @@
 //! A snapshot of a buffer that is published to a reader, first alone and then while it looks.
 ghost use Rattle.std.specs.Prelude.{◌≡◌, ◌∷◌, []};
 
-use crate::buffers::open;
-use crate::report::{Done, Report, sum_of};
+use crate::buffers::open_long;
+use bench_reports::{Done, Report, sum_of};
 use snapshot_pub::{Publisher, SnapReader, open_pairs};
 use std::sync::Wait;
 use std::thread::{Threads, join};
 use text_buffer::Snapshot;
 
-/// Publishes a snapshot of a buffer over `size` bytes n times, takes the latest n times, and does both at once in two threads.
+/// Publishes a snapshot of a buffer over `size` bytes n times, takes the latest n times, and does both at once in two
+/// threads.
 pub fn works<R: Threads + Wait + Sync>(rt: &R, report: &mut Report<'_>, size: u32, n: u32) -> Done {
-    let snapshot = open(report.rt.alloc(), 1, size)?.snapshot()?;
+    let snapshot = open_long(report.alloc(), 1, size)?.snapshot()?;
     run(rt, report, &snapshot, u64::from(n))
 }
 
 fn run<R: Threads + Wait + Sync>(rt: &R, report: &mut Report<'_>, base: &Snapshot, n: u64) -> Done {
     let other = base.share()?;
-    let (mut publisher, mut readers) = open_pairs(rt, report.rt.alloc(), base.share()?, 1)?;
+    let (mut publisher, mut readers) = open_pairs(rt, report.alloc(), base.share()?, 1)?;
     if let Some(mut reader) = readers.pop() {
         report.begin();
         report.add("Publish", publish_all(rt, &mut publisher, base, n));

@@ -1,7 +1,0 @@
-use Rattle.std.proofs.Common.{nat_cmp}
-use Rattle.sum_tree.specs.Keyed.{Ascending}
-use Rattle.bench.specs.Items.{number_key}
-use Rattle.bench.proofs.tree.by_keys.Given as goal
-
-abbrev pub invariant-loop-number : goal.invariant-loop-number
-invariant-loop-number l = Ascending nat_cmp number_key l.tree.items
