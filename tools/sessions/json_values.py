@@ -82,3 +82,8 @@ def read_value(raw: bytes) -> Any:
 def write_string(text: str) -> str:
     """A string as `serde_json` writes it."""
     return json.dumps(text, ensure_ascii=False)
+
+
+def write_value(value: Any) -> str:
+    """A value of a line of a session as compact text, as `serde_json` writes it."""
+    return json.dumps(value, ensure_ascii=False, separators=(",", ":"))

@@ -115,6 +115,13 @@ class OffsetLine:
     column: int
 
 
+@dataclass(frozen=True)
+class ReopenLine:
+    """A replica's buffer is opened with what it has applied."""
+
+    replica: int
+
+
 Line = Union[
     EditLine,
     UndoLine,
@@ -129,6 +136,7 @@ Line = Union[
     FindLine,
     PointLine,
     OffsetLine,
+    ReopenLine,
 ]
 OPERATION_LINES = (EditLine, UndoLine, OpLine, UopLine)
 QUERY_LINES = (FindLine, PointLine, OffsetLine)

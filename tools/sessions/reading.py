@@ -4,7 +4,7 @@ from __future__ import annotations
 from typing import Any, Callable, NamedTuple
 
 from . import lines as kinds
-from .json_values import NotJson, NotWhole, Object, read_value
+from .json_values import NotJson, NotWhole, Object, read_value, write_value
 
 MOST_BYTES, MOST_LINES = 67_108_864, 1_048_576
 U64, U32, U16 = 2**64 - 1, 2**32 - 1, 2**16 - 1
@@ -180,15 +180,25 @@ FORMS: dict[str, Form] = {
     "find": Form(kinds.FindLine, (_replica, _needle), '["find",r,"needle"]'),
     "point": Form(kinds.PointLine, (_replica, _offset), '["point",r,o]'),
     "offset": Form(kinds.OffsetLine, (_replica, _row, _column), '["offset",r,row,column]'),
+    "reopen": Form(kinds.ReopenLine, (_replica,), '["reopen",r]'),
 }
+LATER = ("reopen",)
+"""The words of lines that version 2 adds."""
 
 
-def _line_of(value: Any) -> kinds.Line:
-    members = _members(value, "the line")
+def _words_of(version: int) -> list[str]:
+    """The words of the lines of a session of this version."""
+    return [word for word in FORMS if version == 2 or word not in LATER]
+
+
+def _line_of(value: Any, version: int) -> kinds.Line:
+    members, words = _members(value, "the line"), _words_of(version)
     word = members[0] if members else None
-    if not isinstance(word, str) or word not in FORMS:
+    if not isinstance(word, str) or word not in words:
         shown = f'"{word}"' if isinstance(word, str) else "what stands first"
-        raise _Wrong(f"{shown} is not the word of a line; the words are {', '.join(FORMS)}")
+        raise _Wrong(
+            f"{shown} is not the word of a line of version {version}; the words are {', '.join(words)}"
+        )
     form = FORMS[word]
     if len(members) != len(form.members) + 1:
         wanted = len(form.members) + 1
@@ -297,22 +307,48 @@ def read_header(raw: bytes) -> kinds.Header:
         raise BadLine(1, "header", f'{wrong}: ["zedbuf",1,BASE,[R,..]]') from wrong
 
 
-def read_session(raw: bytes) -> kinds.Session:
-    """The session. Fails with `BadLine` or `TooLarge`."""
+def _return_fault(line: kinds.Header | kinds.Line) -> tuple[str, str] | None:
+    """The word for a text with a CR, which a session of version 1 may not have that is migrated, and the reason."""
+    if isinstance(line, kinds.Header):
+        texts = [("the base", line.base)]
+    elif isinstance(line, (kinds.EditLine, kinds.OpLine)):
+        texts = [(f"the text of piece {at}", piece[2]) for at, piece in enumerate(line.pieces)]
+    else:
+        texts = []
+    for what, text in texts:
+        if "\r" in text:
+            return "cr", f"{what} has a CR, which buffers of version 2 make an LF"
+    return None
+
+
+def read_session(raw: bytes, migrates: bool = False) -> kinds.Session:
+    """The session, as `migrate` reads it where that is asked for. Fails with `BadLine` or `TooLarge`."""
     pieces = cut_lines(raw)
     if not pieces:
         raise BadLine(1, "header", 'there is no line: line 1 is ["zedbuf",1,BASE,[R,..]]')
     header = read_header(pieces[0])
+    minds_returns = migrates and header.version == 1
+    fault = _return_fault(header) if minds_returns else None
+    if fault:
+        raise BadLine(1, *fault)
     earlier, read = _Earlier(header.replicas), []
     for number, piece in enumerate(pieces[1:], 2):
         value = _value_of(number, piece)
         try:
-            line = _line_of(value)
+            line = _line_of(value, header.version)
         except _Wrong as wrong:
             raise BadLine(number, "shape", str(wrong)) from wrong
-        fault = earlier.fault(line)
+        fault = earlier.fault(line) or (_return_fault(line) if minds_returns else None)
         if fault:
             raise BadLine(number, *fault)
         earlier.add(line)
         read.append(line)
     return kinds.Session(header, tuple(read))
+
+
+def migrated_lines(raw: bytes) -> list[str]:
+    """The lines of the session as one of version 2. Fails with `BadLine` or `TooLarge`."""
+    read_session(raw, migrates=True)
+    values = [read_value(piece) for piece in cut_lines(raw)]
+    values[0][1] = 2
+    return [write_value(value) for value in values]

@@ -129,5 +129,7 @@ def _asked_head(event: Event) -> Head:
         return Head(f"find {quoted(line.needle)}: {answer}", MUTED)
     if isinstance(line, kinds.PointLine):
         return Head(f"point {line.offset}: {answer}", MUTED)
+    if isinstance(line, kinds.ReopenLine):
+        return Head(f"opened with what it has applied: {answer}", MUTED)
     assert isinstance(line, kinds.OffsetLine)
     return Head(f"offset {line.row}:{line.column}: {answer}", MUTED)
