@@ -7,7 +7,7 @@ from typing import Iterator, NamedTuple
 
 from .comparing import differences
 from .explaining import Explanation
-from .reading import BadLine, TooLarge, migrated_lines, read_session
+from .reading import BadLine, TooLarge, migrated, read_session
 from .replay import Replay, counts_line
 
 TOP = pathlib.Path(__file__).resolve().parents[2]
@@ -51,7 +51,7 @@ def output_of(case: Case) -> str:
     """What is worked out for a case, in the form of its output."""
     try:
         if case.command == "migrate":
-            return "".join(f"{line}\n" for line in migrated_lines(case.session))
+            return migrated(case.session)
         session = read_session(case.session)
     except (BadLine, TooLarge) as error:
         return f"{error}\n"

@@ -85,5 +85,5 @@ def write_string(text: str) -> str:
 
 
 def write_value(value: Any) -> str:
-    """A value of a line of a session as compact text, as `serde_json` writes it."""
+    """Arrays, strings and whole numbers as `serde_json` writes them, without white space."""
     return json.dumps(value, ensure_ascii=False, separators=(",", ":"))

@@ -117,7 +117,7 @@ class OffsetLine:
 
 @dataclass(frozen=True)
 class ReopenLine:
-    """A replica's buffer is opened with what it has applied."""
+    """A replica is opened again with the operations that it has applied. Version 2 has it alone."""
 
     replica: int
 

@@ -180,26 +180,21 @@ FORMS: dict[str, Form] = {
     "find": Form(kinds.FindLine, (_replica, _needle), '["find",r,"needle"]'),
     "point": Form(kinds.PointLine, (_replica, _offset), '["point",r,o]'),
     "offset": Form(kinds.OffsetLine, (_replica, _row, _column), '["offset",r,row,column]'),
+}
+FORMS_OF_2: dict[str, Form] = {
+    **FORMS,
     "reopen": Form(kinds.ReopenLine, (_replica,), '["reopen",r]'),
 }
-LATER = ("reopen",)
-"""The words of lines that version 2 adds."""
+"""The forms of lines of a session of version 2."""
 
 
-def _words_of(version: int) -> list[str]:
-    """The words of the lines of a session of this version."""
-    return [word for word in FORMS if version == 2 or word not in LATER]
-
-
-def _line_of(value: Any, version: int) -> kinds.Line:
-    members, words = _members(value, "the line"), _words_of(version)
+def _line_of(value: Any, forms: dict[str, Form]) -> kinds.Line:
+    members = _members(value, "the line")
     word = members[0] if members else None
-    if not isinstance(word, str) or word not in words:
+    if not isinstance(word, str) or word not in forms:
         shown = f'"{word}"' if isinstance(word, str) else "what stands first"
-        raise _Wrong(
-            f"{shown} is not the word of a line of version {version}; the words are {', '.join(words)}"
-        )
-    form = FORMS[word]
+        raise _Wrong(f"{shown} is not the word of a line; the words are {', '.join(forms)}")
+    form = forms[word]
     if len(members) != len(form.members) + 1:
         wanted = len(form.members) + 1
         raise _Wrong(f"the line has {len(members)} members; {wanted} are wanted: {form.example}")
@@ -271,6 +266,17 @@ class _Earlier:
         return f"there are 1 to {self.operations}" if self.operations else "there is none at all"
 
 
+def _return_fault(line: kinds.Header | kinds.Line) -> tuple[str, str] | None:
+    """The word for a CR in a text that enters a buffer, which a session of version 2 would make an LF, and the reason."""
+    if isinstance(line, kinds.Header) and "\r" in line.base:
+        return "cr", "the base has a CR"
+    pieces = line.pieces if isinstance(line, (kinds.EditLine, kinds.OpLine)) else ()
+    for at, (_, _, text) in enumerate(pieces):
+        if "\r" in text:
+            return "cr", f"the text of piece {at} has a CR"
+    return None
+
+
 def _listed(items: tuple[int, ...]) -> str:
     return ", ".join(map(str, items))
 
@@ -307,38 +313,25 @@ def read_header(raw: bytes) -> kinds.Header:
         raise BadLine(1, "header", f'{wrong}: ["zedbuf",1,BASE,[R,..]]') from wrong
 
 
-def _return_fault(line: kinds.Header | kinds.Line) -> tuple[str, str] | None:
-    """The word for a text with a CR, which a session of version 1 may not have that is migrated, and the reason."""
-    if isinstance(line, kinds.Header):
-        texts = [("the base", line.base)]
-    elif isinstance(line, (kinds.EditLine, kinds.OpLine)):
-        texts = [(f"the text of piece {at}", piece[2]) for at, piece in enumerate(line.pieces)]
-    else:
-        texts = []
-    for what, text in texts:
-        if "\r" in text:
-            return "cr", f"{what} has a CR, which buffers of version 2 make an LF"
-    return None
-
-
-def read_session(raw: bytes, migrates: bool = False) -> kinds.Session:
-    """The session, as `migrate` reads it where that is asked for. Fails with `BadLine` or `TooLarge`."""
+def read_session(raw: bytes, is_migrated: bool = False) -> kinds.Session:
+    """The session, which is to be written as one of version 2 or not. Fails with `BadLine` or `TooLarge`."""
     pieces = cut_lines(raw)
     if not pieces:
         raise BadLine(1, "header", 'there is no line: line 1 is ["zedbuf",1,BASE,[R,..]]')
     header = read_header(pieces[0])
-    minds_returns = migrates and header.version == 1
-    fault = _return_fault(header) if minds_returns else None
+    forms = FORMS_OF_2 if header.version == 2 else FORMS
+    bars_return = is_migrated and header.version == 1
+    earlier, read = _Earlier(header.replicas), []
+    fault = _return_fault(header) if bars_return else None
     if fault:
         raise BadLine(1, *fault)
-    earlier, read = _Earlier(header.replicas), []
     for number, piece in enumerate(pieces[1:], 2):
         value = _value_of(number, piece)
         try:
-            line = _line_of(value, header.version)
+            line = _line_of(value, forms)
         except _Wrong as wrong:
             raise BadLine(number, "shape", str(wrong)) from wrong
-        fault = earlier.fault(line) or (_return_fault(line) if minds_returns else None)
+        fault = earlier.fault(line) or (_return_fault(line) if bars_return else None)
         if fault:
             raise BadLine(number, *fault)
         earlier.add(line)
@@ -346,9 +339,9 @@ def read_session(raw: bytes, migrates: bool = False) -> kinds.Session:
     return kinds.Session(header, tuple(read))
 
 
-def migrated_lines(raw: bytes) -> list[str]:
-    """The lines of the session as one of version 2. Fails with `BadLine` or `TooLarge`."""
-    read_session(raw, migrates=True)
+def migrated(raw: bytes) -> str:
+    """The session as one of version 2, as `zedbuf migrate` writes it. Fails as `read_session` does for such a session."""
+    read_session(raw, is_migrated=True)
     values = [read_value(piece) for piece in cut_lines(raw)]
     values[0][1] = 2
-    return [write_value(value) for value in values]
+    return "".join(f"{write_value(value)}\n" for value in values)

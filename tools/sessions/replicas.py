@@ -163,7 +163,7 @@ class Replica:
                 return applied - before
 
     def reopen(self) -> None:
-        """Opens the buffer with what it has applied: what waits or was refused is gone."""
+        """Keeps what is applied alone: what waits or was refused is gone."""
         self.waiting, self.refused = [], []
 
     def _turn(self, operation: Operation) -> None:
