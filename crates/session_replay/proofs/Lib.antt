@@ -21,7 +21,6 @@ pub mod Reports
 pub mod Outcome
 pub mod Sent
 pub mod Rounds
-pub mod Reopened
 pub mod Twins
 pub mod Migrated
 pub mod Rows
