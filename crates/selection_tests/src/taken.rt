@@ -15,7 +15,8 @@ type Step = (
     &'static [Stamp],
 );
 
-// What replica 2 takes, and the stamp's value of what it selects after that.
+// What replica 2 takes, and the value of the stamp that it selects with after that. Every operation that is kept moves
+// the clock on by at least one, so the value depends on the order, too.
 struct Case {
     name: &'static str,
     steps: &'static [Step],
@@ -113,7 +114,7 @@ const CASES: &[Case] = &[
             ((1, 3), A, Ok(Old(SECOND_OF_3)), &[(4, 1), (2, 3), (9, 7)]),
             ((9, 7), &[], Ok(Repeat), &[(4, 1), (2, 3), (9, 7)]),
         ],
-        next: Ok(10),
+        next: Ok(13),
     },
     Case {
         name: "a forged one with the own id",
