@@ -1,6 +1,6 @@
 use Rattle.std.proofs.Common.{◌≡◌, ◌++◌, drop, map}
 use Rattle.op_model.specs.declared.operation.UndoCount.{UndoCount}
-use Rattle.text_buffer.proofs.document.edits_of.Given as goal
+use Rattle.text_buffer.proofs.content.edits_of.Given as goal
 
 abbrev pub invariant-loop-count : goal.invariant-loop-count
 invariant-loop-count l = record {
