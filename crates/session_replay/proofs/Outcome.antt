@@ -15,7 +15,6 @@ use Rattle.session_replay.specs.Replay.{large_line, migrates, refusal, response_
 use Rattle.session_replay.specs.declared.top.Prepared.{Prepared}
 use Rattle.session_replay.specs.declared.top.Prepared.TheVariants as prepared
 use Rattle.command_words.specs.declared.command.Task.{Task}
-use Rattle.command_words.specs.declared.command.Task.TheVariants as task
 use Rattle.session_replay.specs.declared.top.Status.{Status}
 use Rattle.session_replay.specs.declared.top.Status.TheVariants as status
 
