@@ -1,12 +1,14 @@
 #!/bin/bash
 # Times the program on a session with edits of a kind, which session.awk lists.
 # usage: bench/session.sh [BYTES] [COUNT] [KIND] [LAG]     for the base alone and with the edits: seconds, processor seconds, peak memory
+#        COMMANDS='check migrate' bench/session.sh ..      the same of each command with the edits, and how much more the last takes than the first
 set -euo pipefail
 here=$(cd "$(dirname "$0")" && pwd)
 bytes=${1:-1048576}
 count=${2:-20000}
 kind=${3:-random}
 lag=${4:-0}
+commands=${COMMANDS:-}
 program=${ZEDBUF:-$here/../zedbuf}
 [ -x "$program" ] || { echo "no program $program: name it in ZEDBUF" >&2; exit 1; }
 work=$(mktemp -d)
@@ -14,13 +16,17 @@ trap 'rm -rf "$work"' EXIT
 # the launcher builds the program first, where that is still to be done
 echo '["zedbuf",1,"",[1]]' | "$program" replay >/dev/null
 
-# run NAME COUNT: a session with so many edits
+# make_session COUNT: a session with so many edits
+make_session() {
+    awk -v bytes="$bytes" -v count="$1" -v kind="$kind" -v lag="$lag" -f "$here/session.awk" >"$work/session"
+}
+
+# run NAME COUNT COMMAND: the command on the session, which has so many edits
 run() {
-    awk -v bytes="$bytes" -v count="$2" -v kind="$kind" -v lag="$lag" -f "$here/session.awk" >"$work/session"
     TIMEFORMAT='%R %U'
     {
         time {
-            "$program" replay <"$work/session" >"$work/report" &
+            "$program" "$3" <"$work/session" >"$work/report" &
             pid=$!
             while peak=$(awk '/^VmHWM/ { print $2 }' "/proc/$pid/status" 2>/dev/null) && [ -n "$peak" ]; do
                 echo "$peak" >"$work/peak"
@@ -32,12 +38,26 @@ run() {
     # processor seconds take in those of the watch, which are few
     read -r whole user <"$work/time"
     echo "$1 $2 $whole $user $(cat "$work/peak")"
-    grep '^replica ' "$work/report" >&2
+    grep '^replica ' "$work/report" >&2 || true
 }
 
+if [ -n "$commands" ]; then
+    make_session "$count"
+    for command in $commands; do
+        run "$command" "$count" "$command"
+    done | awk '
+        { printf "%-8s %8.2f s, %8.2f s of a processor, %8d KiB\n", $1, $3, $4, $5 }
+        NR == 1 { first = $4 }
+        { last = $4 }
+        END { printf "the last takes %.2f of the processor seconds of the first\n", last / first }'
+    exit
+fi
+
 {
-    run base 0
-    run edits "$count"
+    make_session 0
+    run base 0 replay
+    make_session "$count"
+    run edits "$count" replay
 } | awk '
     { printf "%-6s %7d edits: %8.2f s, %8.2f s of a processor, %8d KiB\n", $1, $2, $3, $4, $5 }
     NR == 1 { user = $4; peak = $5 }

@@ -1,5 +1,5 @@
 """Compares the sessions and reports of this folder with the cases crates/session_tests/data/example_NAME.case, which the gate
-runs, and with what the README shows of merge.session. Run it after a change of any of them; it prints what differs.
+runs, and with what docs/SESSIONS.md shows of merge.session. Run it after a change of any of them; it prints what differs.
 """
 import pathlib
 import sys
@@ -24,7 +24,7 @@ files = {
     for file in here.glob("*.session")
 }
 wrong = [name for name in sorted(cases.keys() | files.keys()) if cases.get(name) != files.get(name)]
-readme = (top / "README.md").read_text(encoding="utf-8")
-wrong += [f"README.md: {line}" for text in files["merge"] for line in text.splitlines() if line not in readme]
+page = (top / "docs/SESSIONS.md").read_text(encoding="utf-8")
+wrong += [f"docs/SESSIONS.md: {line}" for text in files["merge"] for line in text.splitlines() if line not in page]
 print("\n".join(f"differs: {name}" for name in wrong) or f"{len(files)} sessions and their reports are those of the cases")
 sys.exit(1 if wrong else 0)

@@ -85,7 +85,8 @@ def errors_of(item: Item, doc: Doc) -> str:
         return doc.errors.rstrip(".")
     own = re.findall(r"\w+", item.head.partition("->")[2])
     names = dict.fromkeys(re.findall(r"`([A-Z]\w*(?:::\w+)*)`", plain(doc.errors)))
-    shown = [f"`{name}`" for name in names if name not in own or name == "OutOfMemory"]
+    own = {*own, "Ok", "Err", "Some", "None"} - {"OutOfMemory"}
+    shown = [f"`{name}`" for name in names if name not in own]
     return ", ".join(shown) or sentences(doc.errors)[0].rstrip(".")
 
 

@@ -66,8 +66,10 @@ listed() {
         echo "a refusal while settling, $workers workers|$(session_of an_operation_refused_after_it_waited)|replay --workers $workers"
         echo "finds, $workers workers|$(session_of a_find_after_an_edit)|replay --workers $workers"
         echo "anchors, marks and undos, $workers workers|$here/../examples/caret.session|replay --workers $workers"
+        echo "a reopened replica, $workers workers|$(session_of a_reopened_replica)|replay --workers $workers"
     done
     echo "check|$here/../examples/caret.session|check"
+    echo "migrate|$here/../examples/caret.session|migrate"
     echo "make|/dev/null|make --seed 5 --replicas 2 --edits 10"
 }
 

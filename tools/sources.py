@@ -56,6 +56,8 @@ def _head(lines: list[str]) -> str:
         stripped = line.strip()
         if at and stripped.startswith(CLAUSES):
             break
+        if stripped.startswith("//"):
+            continue
         words.append(stripped)
         if stripped.endswith(("{", ";", "}")):
             break

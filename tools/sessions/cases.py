@@ -7,7 +7,7 @@ from typing import Iterator, NamedTuple
 
 from .comparing import differences
 from .explaining import Explanation
-from .reading import BadLine, TooLarge, read_session
+from .reading import BadLine, TooLarge, migrated, read_session
 from .replay import Replay, counts_line
 
 TOP = pathlib.Path(__file__).resolve().parents[2]
@@ -50,6 +50,8 @@ def all_cases() -> list[Case]:
 def output_of(case: Case) -> str:
     """What is worked out for a case, in the form of its output."""
     try:
+        if case.command == "migrate":
+            return migrated(case.session)
         session = read_session(case.session)
     except (BadLine, TooLarge) as error:
         return f"{error}\n"
@@ -87,7 +89,7 @@ def example_faults() -> Iterator[str]:
 
 def unexplained(case: Case) -> Iterator[str]:
     """The answers of a case, or its bad line, that `tools/why.py` says nothing of."""
-    explanation = Explanation(case.session)
+    explanation = Explanation(case.session, case.command == "migrate")
     said = "\n".join(explanation.of_all())
     if explanation.bad and f"  {explanation.bad.word}: " not in said:
         yield f"{case.name}: {explanation.bad} is not explained"

@@ -15,6 +15,7 @@ ACCEPTED = {
     "shape": "one of the forms of a line, each member a value of its kind",
     "replica": "a replica of the header, or a header with that replica",
     "number": "the number of an operation line before this one, counted from 1",
+    "cr": "texts without CR, or a session of version 2 already",
     "name": "a name that an earlier line keeps: one of `anchor` lines for `where`, of `mark` for `since`",
     "too large: bytes": "at most 67,108,864 bytes",
     "too large: lines": "at most 1,048,576 lines",
@@ -36,16 +37,16 @@ def _bad_lines(error: BadLine) -> list[str]:
 
 
 class Explanation:
-    """A session and what can be said of its lines."""
+    """A session, which is to be written as one of version 2 or not, and what can be said of its lines."""
 
-    def __init__(self, raw: bytes) -> None:
+    def __init__(self, raw: bytes, is_migrated: bool = False) -> None:
         self.large: TooLarge | None = None
         self.bad: BadLine | None = None
         self.replay: Replay | None = None
         self.raw_lines: list[bytes] = []
         try:
             self.raw_lines = cut_lines(raw)
-            self.replay = Replay(read_session(raw))
+            self.replay = Replay(read_session(raw, is_migrated))
         except TooLarge as error:
             self.large = error
         except BadLine as error:

@@ -82,3 +82,8 @@ def read_value(raw: bytes) -> Any:
 def write_string(text: str) -> str:
     """A string as `serde_json` writes it."""
     return json.dumps(text, ensure_ascii=False)
+
+
+def write_value(value: Any) -> str:
+    """Arrays, strings and whole numbers as `serde_json` writes them, without white space."""
+    return json.dumps(value, ensure_ascii=False, separators=(",", ":"))

@@ -115,6 +115,13 @@ class OffsetLine:
     column: int
 
 
+@dataclass(frozen=True)
+class ReopenLine:
+    """A replica is opened again with the operations that it has applied. Version 2 has it alone."""
+
+    replica: int
+
+
 Line = Union[
     EditLine,
     UndoLine,
@@ -129,6 +136,7 @@ Line = Union[
     FindLine,
     PointLine,
     OffsetLine,
+    ReopenLine,
 ]
 OPERATION_LINES = (EditLine, UndoLine, OpLine, UopLine)
 QUERY_LINES = (FindLine, PointLine, OffsetLine)

@@ -4,7 +4,7 @@ from __future__ import annotations
 from typing import Any, Callable, NamedTuple
 
 from . import lines as kinds
-from .json_values import NotJson, NotWhole, Object, read_value
+from .json_values import NotJson, NotWhole, Object, read_value, write_value
 
 MOST_BYTES, MOST_LINES = 67_108_864, 1_048_576
 U64, U32, U16 = 2**64 - 1, 2**32 - 1, 2**16 - 1
@@ -181,15 +181,20 @@ FORMS: dict[str, Form] = {
     "point": Form(kinds.PointLine, (_replica, _offset), '["point",r,o]'),
     "offset": Form(kinds.OffsetLine, (_replica, _row, _column), '["offset",r,row,column]'),
 }
+FORMS_OF_2: dict[str, Form] = {
+    **FORMS,
+    "reopen": Form(kinds.ReopenLine, (_replica,), '["reopen",r]'),
+}
+"""The forms of lines of a session of version 2."""
 
 
-def _line_of(value: Any) -> kinds.Line:
+def _line_of(value: Any, forms: dict[str, Form]) -> kinds.Line:
     members = _members(value, "the line")
     word = members[0] if members else None
-    if not isinstance(word, str) or word not in FORMS:
+    if not isinstance(word, str) or word not in forms:
         shown = f'"{word}"' if isinstance(word, str) else "what stands first"
-        raise _Wrong(f"{shown} is not the word of a line; the words are {', '.join(FORMS)}")
-    form = FORMS[word]
+        raise _Wrong(f"{shown} is not the word of a line; the words are {', '.join(forms)}")
+    form = forms[word]
     if len(members) != len(form.members) + 1:
         wanted = len(form.members) + 1
         raise _Wrong(f"the line has {len(members)} members; {wanted} are wanted: {form.example}")
@@ -261,6 +266,17 @@ class _Earlier:
         return f"there are 1 to {self.operations}" if self.operations else "there is none at all"
 
 
+def _return_fault(line: kinds.Header | kinds.Line) -> tuple[str, str] | None:
+    """The word for a CR in a text that enters a buffer, which a session of version 2 would make an LF, and the reason."""
+    if isinstance(line, kinds.Header) and "\r" in line.base:
+        return "cr", "the base has a CR"
+    pieces = line.pieces if isinstance(line, (kinds.EditLine, kinds.OpLine)) else ()
+    for at, (_, _, text) in enumerate(pieces):
+        if "\r" in text:
+            return "cr", f"the text of piece {at} has a CR"
+    return None
+
+
 def _listed(items: tuple[int, ...]) -> str:
     return ", ".join(map(str, items))
 
@@ -297,22 +313,35 @@ def read_header(raw: bytes) -> kinds.Header:
         raise BadLine(1, "header", f'{wrong}: ["zedbuf",1,BASE,[R,..]]') from wrong
 
 
-def read_session(raw: bytes) -> kinds.Session:
-    """The session. Fails with `BadLine` or `TooLarge`."""
+def read_session(raw: bytes, is_migrated: bool = False) -> kinds.Session:
+    """The session, which is to be written as one of version 2 or not. Fails with `BadLine` or `TooLarge`."""
     pieces = cut_lines(raw)
     if not pieces:
         raise BadLine(1, "header", 'there is no line: line 1 is ["zedbuf",1,BASE,[R,..]]')
     header = read_header(pieces[0])
+    forms = FORMS_OF_2 if header.version == 2 else FORMS
+    bars_return = is_migrated and header.version == 1
     earlier, read = _Earlier(header.replicas), []
+    fault = _return_fault(header) if bars_return else None
+    if fault:
+        raise BadLine(1, *fault)
     for number, piece in enumerate(pieces[1:], 2):
         value = _value_of(number, piece)
         try:
-            line = _line_of(value)
+            line = _line_of(value, forms)
         except _Wrong as wrong:
             raise BadLine(number, "shape", str(wrong)) from wrong
-        fault = earlier.fault(line)
+        fault = earlier.fault(line) or (_return_fault(line) if bars_return else None)
         if fault:
             raise BadLine(number, *fault)
         earlier.add(line)
         read.append(line)
     return kinds.Session(header, tuple(read))
+
+
+def migrated(raw: bytes) -> str:
+    """The session as one of version 2, as `zedbuf migrate` writes it. Fails as `read_session` does for such a session."""
+    read_session(raw, is_migrated=True)
+    values = [read_value(piece) for piece in cut_lines(raw)]
+    values[0][1] = 2
+    return "".join(f"{write_value(value)}\n" for value in values)

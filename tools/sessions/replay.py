@@ -81,6 +81,7 @@ class Replay:
             kinds.WhereLine: self._where,
             kinds.MarkLine: self._mark,
             kinds.SinceLine: self._since,
+            kinds.ReopenLine: self._reopen,
         }
         replica = self.replicas.get(event.replica or 0)
         before = (len(replica.applied), len(replica.refused)) if replica else (0, 0)
@@ -181,6 +182,11 @@ class Replay:
             event.ranges = tuple(change.new for change in changes)
             answer = ", ".join(map(str, changes)) or "none"
         event.said.append(f"since {write_string(event.line.name)} at {event.replica}: {answer}")
+
+    def _reopen(self, event: Event) -> None:
+        replica = self.replicas[event.replica or 0]
+        replica.reopen()
+        event.said.append(f"reopen {event.replica}: {len(replica.applied) - 1}")
 
     def _query(self, event: Event) -> None:
         event.number = len(self.queries) + 1

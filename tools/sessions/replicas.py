@@ -162,6 +162,10 @@ class Replica:
             if len(self.applied) == applied:
                 return applied - before
 
+    def reopen(self) -> None:
+        """Keeps what is applied alone: what waits or was refused is gone."""
+        self.waiting, self.refused = [], []
+
     def _turn(self, operation: Operation) -> None:
         if not operation.version.is_within(self.history.version):
             return

@@ -127,6 +127,8 @@ def _asked_head(event: Event) -> Head:
         return Head(f"since {quoted(line.name)}: {answer.replace('->', '→')}", MUTED)
     if isinstance(line, kinds.FindLine):
         return Head(f"find {quoted(line.needle)}: {answer}", MUTED)
+    if isinstance(line, kinds.ReopenLine):
+        return Head("opened again with what it has applied", MUTED)
     if isinstance(line, kinds.PointLine):
         return Head(f"point {line.offset}: {answer}", MUTED)
     assert isinstance(line, kinds.OffsetLine)

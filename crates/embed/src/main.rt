@@ -1,14 +1,19 @@
 //! Two authors edit one text, each in a buffer of its own, as in an editor that embeds the library.
 #![tactic(auto)]
 
+mod exchange;
+mod showing;
+
+use crate::exchange::{send_all, take_shown};
+use crate::showing::{show, show_place, show_rows};
 use anyhow::Result;
 use op_model::{Operation, Piece, Text};
-use snapshot_search::find_all;
 use std::alloc::Global;
 use std::io::Print;
-use text_buffer::{Anchor, Bias, Buffer, Limits, Snapshot, agree};
+use text_buffer::{Anchor, Bias, Buffer, EditFault, Limits, agree};
+use text_dims::PointUtf16;
 
-const BASE: &str = "The cat sat.\n";
+const BASE: &str = "The café is full.\nThe cat sat.\nThe end.\n";
 
 // Puts a text in the place of the bytes from `start` to `end`. Gives the operation, which the other authors take.
 fn replace(
@@ -22,15 +27,40 @@ fn replace(
     Ok(author.edit_uncounted(&[Piece::new(start, end, text)])?)
 }
 
+// An edit that cannot be made says why, and leaves the buffer as it was.
+fn refuse(rt: &impl Print, alloc: Global, author: &mut Buffer) -> Result<()> {
+    let text = Text::new(String::from_str(alloc, "e")?);
+    match author.edit_uncounted(&[Piece::new(8, 9, text)]) {
+        Ok(_) => println!(rt; "edited")?,
+        Err(EditFault::InsideChar(piece)) => println!(rt; "range {piece} cuts a character")?,
+        Err(EditFault::PastEnd(piece, len)) => {
+            println!(rt; "range {piece} ends past the {len} bytes")?;
+        }
+        Err(fault) => return Err(fault.into()),
+    }
+    Ok(())
+}
+
 // Both edit at the same time, and then each takes what the other made. Operations may come in any order, and more than once.
-fn edit_both(alloc: Global, ann: &mut Buffer, ben: &mut Buffer) -> Result<()> {
-    let by_ann = replace(alloc, ann, 4, 7, "dog")?;
+fn edit_both(rt: &impl Print, alloc: Global, ann: &mut Buffer, ben: &mut Buffer) -> Result<()> {
+    let by_ann = replace(alloc, ann, 23, 26, "dog")?;
     let by_ben = replace(alloc, ben, 0, 0, "Look: ")?;
-    let _answer = ann.take(by_ben)?;
-    let _answer = ben.take(by_ann)?;
+    take_shown(rt, alloc, ann, by_ben)?;
+    take_shown(rt, alloc, ben, by_ann)?;
     // two buffers with the same operations show the same text: this call says so, and does nothing
     agree(ann, ben);
     Ok(())
+}
+
+// An author undoes an edit of another one, and redoes it; what the other one has not seen of this goes to it at once.
+fn undo_and_send(alloc: Global, ann: &mut Buffer, ben: &mut Buffer) -> Result<()> {
+    let edit = replace(alloc, ben, 6, 6, "here, ")?;
+    let stamp = edit.stamp();
+    let _answer = ann.take(edit)?;
+    let _undo = ann.undo(&[stamp])?;
+    let _redo = ann.undo(&[stamp])?;
+    let _undo = ann.undo(&[stamp])?;
+    send_all(alloc, ann, ben)
 }
 
 // An anchor that keeps to the byte after an offset of the author's text.
@@ -39,26 +69,16 @@ fn anchor_at(author: &Buffer, offset: u64) -> Result<Anchor> {
     Ok(snapshot.anchor(offset, Bias::Right)?)
 }
 
-// Shows an author's text, where an anchor is in it, and where a word stands.
-fn show(rt: &impl Print, alloc: Global, author: &Buffer, anchor: &Anchor) -> Result<()> {
-    print!(rt; "{}", author.text()?)?;
-    // a snapshot copies nothing, and another thread may read it while the author goes on
-    let snapshot = author.snapshot()?;
-    search(rt, alloc, &snapshot, anchor)
-}
-
-fn search(rt: &impl Print, alloc: Global, snapshot: &Snapshot, anchor: &Anchor) -> Result<()> {
-    let place = snapshot.resolve(anchor)?;
-    let found = find_all(alloc, snapshot.text(), "at")?;
-    println!(rt; "anchor at {place}, found at {found:?}")?;
-    Ok(())
-}
-
 fn play(rt: &impl Print, alloc: Global, ann: &mut Buffer, ben: &mut Buffer) -> Result<()> {
-    let sat = anchor_at(ann, 8)?;
-    edit_both(alloc, ann, ben)?;
+    let sat = anchor_at(ann, 27)?;
+    refuse(rt, alloc, ann)?;
+    edit_both(rt, alloc, ann, ben)?;
+    undo_and_send(alloc, ann, ben)?;
     show(rt, alloc, ann, &sat)?;
-    show(rt, alloc, ben, &sat)
+    show(rt, alloc, ben, &sat)?;
+    let snapshot = ben.snapshot()?;
+    show_rows(rt, snapshot.text(), 1, 3)?;
+    show_place(rt, snapshot.text(), PointUtf16 { row: 1, column: 8 })
 }
 
 fn main(rt: HostRuntime) -> Result<()> {

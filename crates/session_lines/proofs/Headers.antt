@@ -1,7 +1,7 @@
 -- What a session keeps of its header: a base no longer than the text, and 1 to 64 distinct ids of replicas.
 use Rattle.op_model.specs.Operations.{last_replica}
 use Rattle.op_model.specs.Domains.{IsReplica}
-use Rattle.std.proofs.Common.{◌≡◌, ◌⊎◌, inl, inr, ℕ, suc, ◌≤◌, Bool, true, false, cond, ◌&&◌, ◌==◌, nat_le, nat_lt, List, [], ◌∷◌, length, get_or, Option, Some, None, option_map, option_and_then, Result, Ok, Err, refl, subst, arith}
+use Rattle.std.proofs.Common.{◌≡◌, ◌⊎◌, inl, inr, ℕ, suc, ◌≤◌, Bool, true, false, cond, ◌&&◌, ◌==◌, nat_le, nat_lt, List, [], ◌∷◌, length, get_or, Option, Some, None, option_map, option_and_then, Result, Ok, Err, refl, sym, ap, ◌∙◌, subst, arith}
 use Rattle.std.specs.Prelude.{⊤, codes}
 use Rattle.std.specs.List.{All, AllByRecursion, list_all, list_any, onto_first}
 use Rattle.std.specs.Str.{is_utf8}
@@ -16,6 +16,7 @@ use Rattle.session_lines.specs.Parts.{all_of, id_of_value, are_distinct}
 use Rattle.session_lines.specs.Heading.{is_replica, most_replicas, are_replicas, replicas_from, format_of_value, header_with, header_from, header_of_value}
 use Rattle.op_model.specs.Choice.{when}
 use Rattle.op_model.specs.Rules.{is_return}
+use Rattle.session_lines.specs.Before.{BeforeState, after_header, header_read, then_header, without_lines}
 use Rattle.session_lines.specs.Session.{bars_return, unless, value_or_word, header_or_word, header_of, then_from, rest_of, with_header, session_of, session_of_text, lines_limit, IsSession}
 use Rattle.session_lines.specs.declared.header.Header.{Header}
 use Rattle.session_lines.specs.declared.session.SessionLine.{SessionLine}
@@ -130,7 +131,7 @@ header_short m line = header_or_word_short (length line) m (value_of line) (valu
 
 -- ---- the session
 
-abbrev IsFirst : ℕ → List (List ℕ) → Type 0
+abbrev pub IsFirst : ℕ → List (List ℕ) → Type 0
 IsFirst n [] = ⊤
 IsFirst n (l ∷ ls) = length l ≤ n
 
@@ -142,7 +143,7 @@ line_or : (b : Bool) (x n : ℕ) (ls : List (List ℕ)) → IsFirst n ls → IsF
 line_or true x n ls h = omega arith
 line_or false x n ls h = one_longer x n ls h
 
-first_short : (text : List ℕ) → IsFirst (length text) (lines_of text)
+pub first_short : (text : List ℕ) → IsFirst (length text) (lines_of text)
 first_short [] = tt
 first_short (x ∷ xs) = line_or (x == 10) x (length xs) (lines_of xs) (first_short xs)
 
@@ -181,3 +182,20 @@ read_by m input s false n e = is_session m input s e
 pub session_read : (m : Bool) (input : List ℕ) (s : Session) → session_of_text m input ≡ Ok s → IsSession (length input) s
 unfolding session_of_text
 session_read m input s e = read_by m input s (nat_lt lines_limit (length (lines_of input))) (length (lines_of input)) e
+
+-- ---- a header alone
+
+fits_after : (m : Bool) (n : ℕ) (r : Result Header Word) (p : List ℕ × BeforeState) → HeaderOrWord n r → then_header m r ≡ Ok p → IsSession n (without_lines p)
+fits_after m n (Err w) p f e = absurd (cc e)
+fits_after m n (Ok h) p f e =
+    let is : after_header m h ≡ p = cc e in
+    subst (λ q. IsSession n (without_lines q)) is (with_lines n n h (Ok []) (omega arith) f)
+
+pub header_fits : (m : Bool) (line : List ℕ) (p : List ℕ × BeforeState) → header_read m line ≡ Ok p → IsSession (length line) (without_lines p)
+unfolding header_read
+header_fits m line p e = fits_after m (length line) (header_of m line) p (header_short m line) e
+
+-- a header that is read fits
+pub header_kept : (m : Bool) (line : List ℕ) (h : Header) (p : List ℕ × BeforeState) → header_of m line ≡ Ok h → p ≡ after_header m h → IsSession (length line) (without_lines p)
+unfolding header_read
+header_kept m line h p e is = header_fits m line p (ap (then_header m) e ∙ ap Ok (sym is))

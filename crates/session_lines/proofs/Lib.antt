@@ -5,6 +5,7 @@ pub mod Headers
 pub mod Faults
 pub mod CleanTexts
 pub mod LineNames
+pub mod LinesRead
 pub mod Versions
 pub mod Rows
 pub mod Quoted

@@ -6,5 +6,5 @@ pub mod Forms
 pub mod Heading
 pub mod Session
 pub mod Kept
-pub mod Earlier
+pub mod Before
 pub mod Report

@@ -178,22 +178,27 @@ has_anchor ls name = list_any (λ l. is_name name (anchor_name l)) ls
 abbrev pub has_mark : List SessionLine → List ℕ → Bool
 has_mark ls name = list_any (λ l. is_name name (mark_name l)) ls
 
+-- what the line asks for by a name, if it does, is kept under it: an anchor under the names of the first test, a version under those
+-- of the second
+abbrev pub is_named_by : (List ℕ → Bool) → (List ℕ → Bool) → SessionLine → Bool
+is_named_by anchors marks (Edit r ps) = true
+is_named_by anchors marks (Undo r ns) = true
+is_named_by anchors marks (Op e) = true
+is_named_by anchors marks (Uop u) = true
+is_named_by anchors marks (Give r n) = true
+is_named_by anchors marks (Text r) = true
+is_named_by anchors marks (Anchor r n o b) = true
+is_named_by anchors marks (Where r n) = anchors n
+is_named_by anchors marks (Mark r n) = true
+is_named_by anchors marks (Since r n) = marks n
+is_named_by anchors marks (Find r t) = true
+is_named_by anchors marks (Point r o) = true
+is_named_by anchors marks (Offset r k c) = true
+is_named_by anchors marks (Reopen r) = true
+
 -- under the name that the line asks for, if it does, one of the lines before keeps what it asks for
 abbrev pub is_named : List SessionLine → SessionLine → Bool
-is_named before (Edit r ps) = true
-is_named before (Undo r ns) = true
-is_named before (Op e) = true
-is_named before (Uop u) = true
-is_named before (Give r n) = true
-is_named before (Text r) = true
-is_named before (Anchor r n o b) = true
-is_named before (Where r n) = has_anchor before n
-is_named before (Mark r n) = true
-is_named before (Since r n) = has_mark before n
-is_named before (Find r t) = true
-is_named before (Point r o) = true
-is_named before (Offset r k c) = true
-is_named before (Reopen r) = true
+is_named before line = is_named_by (has_anchor before) (has_mark before) line
 
 -- a text that the line brings into buffers has a CR
 abbrev pub brings_return : SessionLine → Bool

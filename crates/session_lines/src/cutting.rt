@@ -41,7 +41,7 @@ fn newline_count(text: &[u8]) -> usize
     text.iter().filter(|b| **b == 10).count()
 }
 
-/// How many lines there are.
+/// How many lines a text has. Linear in the text; does not allocate.
 #[tactic(auto, using(crate::proofs::Cut::lines_counted), unfolding(text_dims::specs::Counts::newline_count))]
 pub fn line_count(text: &[u8]) -> usize
     ensures { result ≡ length (lines_of text.now) }

@@ -2,6 +2,7 @@
 ghost use Rattle.std.specs.Prelude.{◌≡◌, Some};
 ghost use Rattle.session_lines.specs.Words.{word_text};
 ghost use Rattle.session_lines.specs.declared.fault.DecodeFault.{DecodeFault};
+ghost use Rattle.session_lines.specs.declared.fault.LineFault.{LineFault};
 
 use crate::OutOfMemory;
 use std::alloc::AllocFailed;
@@ -41,6 +42,24 @@ impl fmt::Display for Word {
             Word::Name => write!(f, "name"),
             Word::Cr => write!(f, "cr"),
         }
+    }
+}
+
+/// Why a text is no line of a session.
+#[derive(Clone, Copy, Debug, PartialEq, Eq, Error)]
+pub enum LineFault {
+    /// What is wrong with the line.
+    #[error("the line is bad: {0}")]
+    Bad(Word),
+    #[error("out of memory")]
+    OutOfMemory,
+}
+
+impl From<OutOfMemory> for LineFault {
+    ghost from_gives = { λ _ e. e ≡ LineFault.OutOfMemory };
+
+    fn from(_: OutOfMemory) -> Self {
+        LineFault::OutOfMemory
     }
 }
 

@@ -2,9 +2,9 @@
 //! the text of each line that a report has.
 #![tactic(auto)]
 
+mod before;
 mod cutting;
 mod decoding;
-mod earlier;
 mod fault;
 mod forms;
 mod header;
@@ -17,9 +17,11 @@ mod returns;
 mod session;
 mod text;
 
-pub use cutting::first_line;
-pub use decoding::decode;
-pub use fault::{DecodeFault, Word};
+pub use before::Before;
+pub use cutting::{first_line, line_count};
+pub use decoding::{decode, read_header, read_line};
+pub use fault::{DecodeFault, LineFault, Word};
+pub use kept::KeptLine;
 pub use lamport_clock::OutOfMemory;
 pub use line_list::{LineQueue, SessionLines};
 pub use report::{

@@ -2,28 +2,12 @@
 ghost use Rattle.std.specs.Prelude.{◌≡◌, map, option_map, IfOk, None, Some, Err};
 ghost use Rattle.serde_json.specs.View.{view};
 ghost use Rattle.session_lines.specs.Json.{value_of, members_of, is_text, is_number};
-ghost use Rattle.session_lines.specs.declared.line_value.LineFault.{LineFault};
+ghost use Rattle.session_lines.specs.declared.fault.LineFault.{LineFault};
 ghost use Rattle.session_lines.specs.declared.fault.Word.{Word};
 
-use crate::OutOfMemory;
-use crate::fault::Word;
+use crate::fault::{LineFault, Word};
 use serde_json::Value;
 use std::alloc::Global;
-
-/// Why a line is not a line of a session.
-#[derive(Clone, Copy, Debug, PartialEq, Eq)]
-pub enum LineFault {
-    Bad(Word),
-    OutOfMemory,
-}
-
-impl From<OutOfMemory> for LineFault {
-    ghost from_gives = { λ _ e. e ≡ LineFault.OutOfMemory };
-
-    fn from(_: OutOfMemory) -> Self {
-        LineFault::OutOfMemory
-    }
-}
 
 /// The value that a line is.
 #[tactic(auto, unfolding(crate::specs::Json::value_of))]

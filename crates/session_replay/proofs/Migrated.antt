@@ -1,8 +1,7 @@
 -- A session that is migrated reports the same.
-use Rattle.std.proofs.Common.{◌≡◌, ℕ, List, Ok, sym, ap, ◌∙◌, subst}
+use Rattle.std.proofs.Common.{◌≡◌, ℕ, List, Ok, false, sym, ap, ◌∙◌, subst}
 use Rattle.session_lines.specs.Report.{report_text}
 use Rattle.session_lines.specs.Session.{session_of_text}
-use Rattle.session_lines.specs.declared.report.Report.{Report}
 use Rattle.session_lines.specs.declared.session.Session.{Session}
 use Rattle.session_writer.specs.Migrated.{second}
 use Rattle.session_writer.proofs.Decoding.{read_plainly}

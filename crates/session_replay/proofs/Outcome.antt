@@ -15,7 +15,6 @@ use Rattle.session_replay.specs.Replay.{large_line, migrates, refusal, response_
 use Rattle.session_replay.specs.declared.top.Prepared.{Prepared}
 use Rattle.session_replay.specs.declared.top.Prepared.TheVariants as prepared
 use Rattle.command_words.specs.declared.command.Task.{Task}
-use Rattle.command_words.specs.declared.command.Task.TheVariants as task
 use Rattle.session_replay.specs.declared.top.Status.{Status}
 use Rattle.session_replay.specs.declared.top.Status.TheVariants as status
 
@@ -34,9 +33,9 @@ pub refused_answer : (c : Task) (input : List ℕ) (e : DecodeFault) (st : Statu
 refused_answer c input e st text le is r = inr (inr (e, is), small_answer c input le ∙ (ap (response_with c input) is ∙ r))
 
 -- a session within the limit is none of these
-pub some : {P : Type 0} (c : Task) (input : List ℕ) (s : Session) → length input ≤ session_limit → session_of_text (migrates c) input ≡ Ok s → IsNone c input → P
-some c input s le e (inl h) = absurd (omega (arith, h, le))
-some c input s le e (inr h) = let f : Ok s ≡ Err h.0 = sym e ∙ h.1 in cc
+pub not_none : {P : Type 0} (c : Task) (input : List ℕ) (s : Session) → length input ≤ session_limit → session_of_text (migrates c) input ≡ Ok s → IsNone c input → P
+not_none c input s le e (inl h) = absurd (omega (arith, h, le))
+not_none c input s le e (inr h) = let f : Ok s ≡ Err h.0 = sym e ∙ h.1 in cc
 
 -- ---- what a status tells
 
@@ -57,33 +56,33 @@ second a st t text e = ap (λ p. p.1) e
 
 told_by : (c : Task) (input : List ℕ) (b : Bool) (r : Result Session DecodeFault) (st : Status) (text : List ℕ) → IsNone c input → nat_lt session_limit (length input) ≡ b → session_of_text (migrates c) input ≡ r
     → cond b (status.TooLarge, large_line) (response_with c input r) ≡ (st, text) → Told c input st text
-told_by c input true r st text no l d e =
+told_by c input true r st text none l d e =
     let f = first status.TooLarge st large_line text e in record {
       done = λ k. differ status.TooLarge st status.Done f k (λ x. cc);
       session = λ k. differ status.TooLarge st status.Session f k (λ x. cc);
       large = λ k. inl (ltb-true session_limit (length input) l, second status.TooLarge st large_line text e);
       kinds = inr (inr (sym f));
     }
-told_by c input false (Ok s) st text no l d e = some c input s (ltb-false session_limit (length input) l) d no
-told_by c input false (Err (Lines n)) st text no l d e =
+told_by c input false (Ok s) st text none l d e = not_none c input s (ltb-false session_limit (length input) l) d none
+told_by c input false (Err (Lines n)) st text none l d e =
     let f = first status.TooLarge st many_line text e in record {
       done = λ k. differ status.TooLarge st status.Done f k (λ x. cc);
       session = λ k. differ status.TooLarge st status.Session f k (λ x. cc);
       large = λ k. inr (ltb-false session_limit (length input) l, too_many (migrates c) input n d, second status.TooLarge st many_line text e);
       kinds = inr (inr (sym f));
     }
-told_by c input false (Err (Bad n w)) st text no l d e =
+told_by c input false (Err (Bad n w)) st text none l d e =
     let f = first status.Session st (bad_line n w) text e in record {
       done = λ k. differ status.Session st status.Done f k (λ x. cc);
       session = λ k. (ltb-false session_limit (length input) l, (n, w, d, second status.Session st (bad_line n w) text e));
       large = λ k. differ status.Session st status.TooLarge f k (λ x. cc);
       kinds = inr (inl (sym f));
     }
-told_by c input false (Err OutOfMemory) st text no l d e = absurd (never_memory (migrates c) input d)
+told_by c input false (Err OutOfMemory) st text none l d e = absurd (never_memory (migrates c) input d)
 
 plainly_told : (c : Task) (input : List ℕ) (st : Status) (text : List ℕ) → IsNone c input → response_of c input ≡ (st, text) → Told c input st text
 unfolding response_of
-plainly_told c input st text no e = told_by c input (nat_lt session_limit (length input)) (session_of_text (migrates c) input) st text no refl refl e
+plainly_told c input st text none e = told_by c input (nat_lt session_limit (length input)) (session_of_text (migrates c) input) st text none refl refl e
 
 pub told : (c : Task) (input : List ℕ) (st : Status) (text : List ℕ) → IsResponse c input st text → Told c input st text
 told c input st text (inl w) = record {

@@ -1,5 +1,5 @@
 -- Worked rows, from the bytes of a session to those of its report: the definitions compute.
-use Rattle.std.proofs.Common.{◌≡◌, ℕ, refl, false}
+use Rattle.std.proofs.Common.{◌≡◌, ℕ, refl}
 use Rattle.std.specs.Prelude.{codes}
 use Rattle.std.specs.Fmt.{digits}
 use Rattle.std.specs.Str.{is_utf8, chars}

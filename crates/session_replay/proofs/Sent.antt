@@ -1,6 +1,6 @@
 -- What the status says once the answer to a source was sent.
 use Rattle.session_lines.proofs.Faults.{session_of_many}
-use Rattle.std.proofs.Common.{◌≡◌, ℕ, ◌+◌, ◌<◌, ◌≤◌, ◌⊎◌, inl, inr, List, length, sym, ap, ◌∙◌, subst, arith, Option, None, Some, IfSome, Ok, Err, false}
+use Rattle.std.proofs.Common.{◌≡◌, ℕ, ◌+◌, ◌<◌, ◌≤◌, ◌⊎◌, inl, inr, List, length, sym, ◌∙◌, subst, arith, Option, None, Some, IfSome, Ok, Err}
 use Rattle.std.specs.Io.KnownBytes.{Appends}
 use Rattle.session_replay.specs.Causes.{Rose, RoseBy}
 use Rattle.session_replay.specs.Traffic.{AppendsFront, Had, WasRead, WasTaken, session_limit}
@@ -16,7 +16,7 @@ use Rattle.command_words.specs.declared.command.Task.{Task}
 use Rattle.command_words.specs.declared.command.Task.TheVariants as task
 use Rattle.session_replay.specs.declared.top.Status.{Status}
 use Rattle.session_replay.specs.declared.top.Status.TheVariants as status
-use Rattle.session_replay.proofs.Outcome.{Told, some, told}
+use Rattle.session_replay.proofs.Outcome.{Told, not_none, told}
 
 if_had : (left : Option (List ℕ)) (input : List ℕ) (P : List ℕ → Type 0) → Had left input → P input → IfSome left P
 if_had None input P h p = tt
@@ -103,7 +103,7 @@ module _ (c : Task) (left left_after : Option (List ℕ)) (given given_after end
     -- what answers a session is not the text of a bad line, nor of too many bytes
     done_by : (s : Session) → length a.input ≤ session_limit → session_of_text (migrates c) a.input ≡ Ok s → IsResponse c a.input st text → st ≡ status.Done
     done_by s le e (inl w) = w.0
-    done_by s le e (inr k) = some c a.input s le e k.0
+    done_by s le e (inr k) = not_none c a.input s le e k.0
 
     pub completes : IfSome left (λ input. length input ≤ session_limit → (s : Session) → session_of_text (migrates c) input ≡ Ok s → (r ≡ status.Done) ⊎ (r ≡ status.Memory))
     completes =

@@ -1,5 +1,5 @@
 -- A session without a CR, over buffers that keep texts as they are and over buffers in which each CR becomes an LF: both report the same.
-use Rattle.std.proofs.Common.{◌≡◌, ℕ, zero, suc, ◌+◌, ◌-◌, ◌==◌, Bool, true, false, cond, List, [], ◌∷◌, ◌++◌, length, map, get_or, Option, None, Some, Result, Ok, Err, inl, inr, refl, sym, ap, ap₂, ◌∙◌, subst, arith}
+use Rattle.std.proofs.Common.{◌≡◌, ℕ, zero, suc, ◌+◌, ◌-◌, ◌==◌, Bool, true, false, cond, List, [], ◌∷◌, ◌++◌, length, map, get_or, Option, None, Some, Result, Ok, Err, inl, inr, refl, sym, ap, ap₂, ◌∙◌, subst}
 use Rattle.std.specs.Prelude.{⊤, option_and_then, option_map}
 use Rattle.std.specs.List.{AllByRecursion, AllZip, flat_map, list_any, position}
 use Rattle.std.specs.Result.{result_ok}
@@ -12,10 +12,9 @@ use Rattle.lamport_clock.specs.declared.stamp.Lamport.{Lamport}
 use Rattle.op_model.specs.Answers.{Answer}
 use Rattle.op_model.specs.Answers.Answer.{Good, Repeat, Waits, Refused}
 use Rattle.op_model.specs.Made.{full_piece, local_edit, local_edit_fault, local_undo}
-use Rattle.op_model.specs.Rules.{Rules, KeepsRule, answer_under, has_return, is_return, pieces_under, rule_fault, text_under}
+use Rattle.op_model.specs.Rules.{Rules, KeepsRule, answer_under, has_return, pieces_under, rule_fault}
 use Rattle.op_model.specs.Settled.{State as Held, Turn, full_fault, pass, passes, settle, turn, turn_of, with_first_refusal, with_waiting}
 use Rattle.op_model.specs.Settled.Turn.{Append, Drop, Stay, Refuse}
-use Rattle.op_model.specs.Sorted.{insert_by}
 use Rattle.op_model.specs.Steps.{ask_limits, older, settle_step, take_answer, take_step, with_applied, with_deferred}
 use Rattle.op_model.specs.declared.endings.Endings.{Endings}
 use Rattle.op_model.specs.declared.endings.Endings.TheVariants.{AsIs, Lf}
@@ -33,8 +32,8 @@ use Rattle.op_model.proofs.order.Insertion.{each_insert}
 use Rattle.op_model.proofs.settling.Leaves.{each_kept}
 use Rattle.op_model.proofs.settling.Passes.{after_refused, pass_nil}
 use Rattle.op_model.proofs.settling.Settling.{after, pass_is, settled_keeps}
-use Rattle.text_buffer.specs.Buffer.{BufferState, after_apply, after_settle, after_take, base_under, edit_fault, edit_of, state, undo_of, with_state}
-use Rattle.session_lines.specs.Session.{brings_return, endings_of, session_of_text, unless}
+use Rattle.text_buffer.specs.Buffer.{BufferState, after_apply, after_settle, base_under, edit_fault, edit_of, state, undo_of, with_state}
+use Rattle.session_lines.specs.Session.{endings_of, session_of_text, unless}
 use Rattle.session_lines.specs.declared.report.GiveAnswer.{GiveAnswer}
 use Rattle.session_lines.specs.declared.report.Report.{Report}
 use Rattle.session_lines.specs.declared.report.Report.TheVariants as report

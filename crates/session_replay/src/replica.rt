@@ -192,7 +192,7 @@ impl Replica {
     }
 
     /// Opens its buffer with copies of what it has applied, which share the texts. What waits there or was refused is gone. Returns how
-    /// many operations it has applied, the base not counted. Linear in what it has applied.
+    /// many operations it has applied, the base not counted. Costs as much as applying them in turn.
     pub fn reopen(&mut self, alloc: Global) -> Result<u64, OutOfMemory>
         ensures count { IfOk result (λ count. count ≡ applied_count self.old.history) }
         ensures after { OnOk result (self.new ≡ after_reopen self.old) }

@@ -361,14 +361,15 @@ fn make_session<O: Sink>(alloc: Global, seed: u32, replicas: u16, edits: u32, ou
     }
 }
 
-/// Runs the program: reads the words, then the source to its end or to one byte past the limit of 67,108,864 bytes, decodes the
-/// session, and writes its report, for `check` the line with its counts, or for `migrate` the session as one of version 2. `make` reads no source: it makes a session, works it and
-/// writes its summary. Only a replay with workers may wait, for the gate and for its threads.
+/// Runs the program: reads the words, then the source to its end or to one byte past the limit of 67,108,864 bytes, and decodes the
+/// session. Writes its report, for `check` the line with its counts, or for `migrate` the session as one of version 2. `make` reads no
+/// source: it makes a session, works it and writes its summary. Only a replay with workers may wait, for the gate and for its threads.
 ///
-/// The output is held whole, the input until it is decoded, or for `migrate` until the output is made. An edit or undo, made or taken, costs a few descents for each of its
-/// pieces and for each run of bytes that it shows or hides, and a line that shows a text as much as the text. A `give` shares the
-/// operation that it names with the buffer. A query is answered on a snapshot, for which nothing is copied: a `find` goes over the text
-/// once, and keeps 8 bytes for each place; a `point` or an `offset` goes down the rope.
+/// The output is held whole, the input until it is decoded, or for `migrate` until the output is made. An edit or undo, made or taken,
+/// costs a few descents for each of its pieces and for each run of bytes that it shows or hides, and a line that shows a text as much
+/// as the text. A `give` shares the operation that it names with the buffer. A `reopen` line costs what applying all that its replica
+/// has applied does. A query is answered on a snapshot, for which nothing is copied: a `find` goes over the text once, and keeps 8
+/// bytes for each place; a `point` or an `offset` goes down the rope.
 pub fn run<R: Threads + Wait + Sync, I: Source, O: Sink, G: Gate>(
     rt: &R,
     alloc: Global,

@@ -25,8 +25,8 @@ pub fn test<R: Host>(rt: &R, tally: &mut Tally) {
     }
 }
 
-// The word of a line.
-fn name_of(line: &SessionLine) -> &'static str {
+/// The word of a line.
+pub fn name_of(line: &SessionLine) -> &'static str {
     match line {
         SessionLine::Edit { .. } => "edit",
         SessionLine::Undo { .. } => "undo",

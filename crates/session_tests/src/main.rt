@@ -13,6 +13,7 @@ mod gates;
 mod limits;
 mod making;
 mod pairs;
+mod reading;
 mod tally;
 mod writing;
 
@@ -23,6 +24,7 @@ fn main(rt: HostRuntime) -> ExitCode {
     let mut tally = Tally::new();
     files::test(&rt, &mut tally);
     decoding::test(&rt, &mut tally);
+    reading::test(&rt, &mut tally);
     writing::test(&rt, &mut tally);
     ends::test(&rt, &mut tally);
     gates::test(&rt, &mut tally);

@@ -30,7 +30,8 @@ use Rattle.fragments.proofs.Bases.{stand_is}
 use Rattle.remote_edit.specs.declared.placed.Placed.{Placed}
 use Rattle.remote_edit.specs.Carried.{AreMovesOf}
 use Rattle.remote_edit.specs.Fragments.{fragments_of}
-use Rattle.remote_edit.specs.Moves.{Texts, after_moves}
+use Rattle.remote_edit.specs.declared.moves.Move.{Move}
+use Rattle.remote_edit.specs.Moves.{TakeTexts, Texts, after_moves}
 use Rattle.remote_edit.specs.Placing.{MayMake, MayPlace}
 use Rattle.remote_edit.specs.Undoing.{MayMark}
 use Rattle.remote_edit.proofs.WholeFragments.{base_whole}
@@ -122,9 +123,22 @@ may_mark c h u w ts k s g e f = record {
 pub moves_room : (c : Content) (h : History) (n : ℕ) → IsContent c h → bytes_held h + n ≤ 2 ^ 40 → length c.text + length c.hidden + n ≤ 2 ^ 40
 moves_room c h n k r = let a = ap length k.shown in let b = ap length k.hidden in let d = both_bytes h in omega (arith, a, b, d, r)
 
+-- moves that take whole characters of texts and of a new one take those of equal ones
+pub take_texts : (ms : List Move) (s t n a b e : List ℕ) → s ≡ a → t ≡ b → n ≡ e → TakeTexts ms a b e → TakeTexts ms s t n
+take_texts ms s t n a b e x y z k = subst (λ (u : List ℕ). TakeTexts ms u t n) (sym x) (subst (λ (u : List ℕ). TakeTexts ms a u n) (sym y) (subst (TakeTexts ms a b) (sym z) k))
+
 -- ---- after an operation
 
-pub content_after : (c : Content) (p : Placed) (h : History) (op : Operation) (u w : List UndoEntry) (n : List ℕ) → IsMoved c p w h n → n ≡ texts (pieces_of op)
+-- moves make the same of equal texts
+pub moved_texts : (c : Content) (p : Placed) (u : List UndoEntry) (s t a b n : List ℕ) → s ≡ a → t ≡ b → IsMoved c p u s t n → IsMoved c p u a b n
+moved_texts c p u s t a b n x y k = record {
+  fragments = k.fragments;
+  index = k.index;
+  undos = k.undos;
+  texts = k.texts ∙ ap (λ (z : List ℕ). after_moves p.moves z t n) x ∙ ap (λ (z : List ℕ). after_moves p.moves a z n) y;
+}
+
+pub content_after : (c : Content) (p : Placed) (h : History) (op : Operation) (u w : List UndoEntry) (n : List ℕ) → IsMoved c p w (text h) (hidden_text h) n → n ≡ texts (pieces_of op)
     → w ≡ u → p.fragments.items ≡ fragments_of (h ++ op ∷ []) → Stand p.fragments.items p.index u (h ++ op ∷ []) → AllByRecursion (IsWhole (h ++ op ∷ [])) (runs p.fragments.items) → AreMovesOf p.moves h op → IsContent c (h ++ op ∷ [])
 content_after c p h op u w n k t e fr s d m =
     let f = k.texts ∙ ap (after_moves p.moves (text h) (hidden_text h)) t ∙ m in

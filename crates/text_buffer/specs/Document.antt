@@ -1,5 +1,5 @@
 -- What is true of the history of a document.
-use Rattle.std.specs.Prelude.{◌≡◌, ℕ, ◌+◌, ◌-◌, ◌^◌, ◌≤◌, List, [], ◌++◌, length, None}
+use Rattle.std.specs.Prelude.{◌≡◌, ℕ, ◌+◌, ◌-◌, ◌^◌, ◌≤◌, List, [], ◌∷◌, ◌++◌, length, None}
 use Rattle.std.specs.List.{AllByRecursion}
 use Rattle.std.specs.Str.{IsUtf8}
 use Rattle.op_model.specs.declared.limits.Limits.{Limits as LimitsType}
@@ -54,19 +54,31 @@ pub record IsContent (c : Content) (h : List Operation) : Type 0 where
   pub shown : c.text ≡ text h
   pub hidden : c.hidden ≡ hidden_text h
 
--- the content has the fragments and the index of what an operation made of those of h, the undo counts u, and both texts of h after
--- its moves, n being its new text
-pub record IsMoved (c : Content) (p : Placed) (u : List UndoEntry) (h : List Operation) (n : List ℕ) : Type 0 where
+-- the content has the fragments and the index of what an operation made, the undo counts u, and what its moves make of the texts s
+-- and h, n being its new text
+pub record IsMoved (c : Content) (p : Placed) (u : List UndoEntry) (s h n : List ℕ) : Type 0 where
   pub fragments : c.fragments.items ≡ p.fragments.items
   pub index : c.index ≡ p.index
   pub undos : c.undos ≡ u
-  pub texts : texts_of c.text c.hidden ≡ after_moves p.moves (text h) (hidden_text h) n
+  pub texts : texts_of c.text c.hidden ≡ after_moves p.moves s h n
 
 -- op is good after h, and there is room for it
 pub record MayGrow (h : List Operation) (op : Operation) : Type 0 where
   pub proper : IsProper op
   pub good : answer h [] op ≡ Good
   pub room : HasRoom h op
+
+-- the content is that of a history in which op is good, and which has room for it
+pub record MayAdd (c : Content) (op : Operation) : Type 0 where
+  pub history : List Operation
+  pub content : IsContent c history
+  pub known : IsBufferHistory history
+  pub grows : MayGrow history op
+
+-- for each such history, d is the content of it with op
+abbrev pub IsWithOperation : Content → Operation → Content → Type 0
+IsWithOperation c op d = (h : List Operation) → IsContent c h → IsBufferHistory h → MayGrow h op
+    → IsContent d (h ++ op ∷ [])
 
 -- replica r may edit the text of h by changes: under some limits they meet no fault
 pub record MayEdit (h : List Operation) (r : ℕ) (changes : List Piece) : Type 0 where

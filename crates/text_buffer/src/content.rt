@@ -1,20 +1,26 @@
 //! The fragments and texts that a history makes.
-ghost use Rattle.std.specs.Prelude.{◌≡◌, ◌^◌, ◌≤◌, ℕ, List, ◌∷◌, [], length, IfOk};
+ghost use Rattle.std.specs.Prelude.{◌≡◌, ◌+◌, ◌^◌, ◌≤◌, ℕ, List, ◌∷◌, [], length, map, IfOk};
 ghost use Rattle.std.specs.List.{AllByRecursion};
 ghost use Rattle.locators.specs.Locator.{IsLess, EndsAboveZero, between_digits, least_digits, greatest_digits};
+ghost use Rattle.op_model.specs.declared.operation.Operation.TheVariants.{Edit, Undo};
+ghost use Rattle.op_model.specs.Operations.{text_total};
 ghost use Rattle.op_model.specs.Histories.{History, base};
+ghost use Rattle.op_model.specs.Shown.{texts};
 ghost use Rattle.op_model.specs.Walked.{IsWhole};
 ghost use Rattle.fragments.specs.Laws.{whole_base, index_of_one};
 ghost use Rattle.fragments.specs.Stand.{Stand, runs};
 ghost use Rattle.remote_edit.specs.Fragments.{fragments_of};
-ghost use Rattle.text_buffer.specs.Document.{IsContent};
+ghost use Rattle.remote_edit.specs.Moves.{TakeTexts};
+ghost use Rattle.text_buffer.specs.Document.{IsContent, IsMoved, IsWithOperation, MayAdd};
 
 use crate::OutOfMemory;
 use fragments::{Fragment, InsertionIndex, Stamps};
 use lamport_clock::{Lamport, Version};
 use locators::Locator;
+use op_model::{EditOp, Operation, Piece, UndoCount, UndoOp};
+use remote_edit::{Placed, mark_undo_by_index, place_remote_into};
 use rope_chunks::Rope;
-use rope_edits::TextRopes;
+use rope_edits::{TextRopes, apply_moves_into};
 use std::alloc::Global;
 use sum_tree::SumTree;
 use undo_map::UndoMap;
@@ -69,7 +75,8 @@ impl Content {
         })
     }
 
-    fn share_texts(&self) -> Result<TextRopes, OutOfMemory>
+    /// Both texts again, which share everything with these. Copies nothing.
+    pub fn share_texts(&self) -> Result<TextRopes, OutOfMemory>
         ensures shown { IfOk result (λ t. t.shown ≡ self.now.text) }
         ensures hidden { IfOk result (λ t. t.hidden ≡ self.now.hidden) }
     {
@@ -86,6 +93,118 @@ impl Content {
     {
         Ok((self.fragments.share()?, self.index.share()?))
     }
+
+    /// The content of the history with one operation more, which is good. This costs a few descents for each of its
+    /// pieces, the fragments in their ranges and those that its counts concern. What no other content shares changes
+    /// in place.
+    ///
+    /// # Errors
+    ///
+    /// Fails only if an allocation fails. The content is dropped then.
+    pub fn with_operation(self, alloc: Global, op: &Operation) -> Result<Content, OutOfMemory>
+        requires { MayAdd self op.now }
+        ensures { IfOk result (λ c. IsWithOperation self op.now c) }
+    {
+        match op {
+            Operation::Edit(edit) => self.with_edit(alloc, edit),
+            Operation::Undo(undo) => self.with_undo(alloc, undo),
+        }
+    }
+
+    // The content of the history with an edit that is good.
+    fn with_edit(self, alloc: Global, edit: &EditOp) -> Result<Content, OutOfMemory>
+        requires { MayAdd self (Edit edit.now) }
+        ensures { IfOk result (λ c. IsWithOperation self (Edit edit.now) c) }
+    {
+        let Content {
+            fragments,
+            index,
+            undos,
+            text,
+            hidden,
+        } = self;
+        let placed = place_remote_into(alloc, fragments, index, &undos, edit)?;
+        let ropes = TextRopes {
+            shown: text,
+            hidden,
+        };
+        Content::after_moves(alloc, placed, undos, ropes, edit.pieces.as_slice())
+    }
+
+    // The content of the history with an undo that is good.
+    fn with_undo(self, alloc: Global, undo: &UndoOp) -> Result<Content, OutOfMemory>
+        requires { MayAdd self (Undo undo.now) }
+        ensures { IfOk result (λ c. IsWithOperation self (Undo undo.now) c) }
+    {
+        let Content {
+            fragments,
+            index,
+            undos,
+            text,
+            hidden,
+        } = self;
+        let undos = undos.put_undo(alloc, undo)?;
+        let edits = edits_of(alloc, undo.counts.as_slice())?;
+        let placed = mark_undo_by_index(
+            alloc,
+            &fragments,
+            &index,
+            &undos,
+            undo.stamp,
+            edits.as_slice(),
+        )?;
+        let ropes = TextRopes {
+            shown: text,
+            hidden,
+        };
+        Content::after_moves(alloc, placed, undos, ropes, &[])
+    }
+
+    /// The fragments and the index that an operation makes, with what its moves make of both texts. The new texts are
+    /// copied. What no other content shares of the ropes changes in place.
+    ///
+    /// # Errors
+    ///
+    /// Fails only if an allocation fails. What was handed in is dropped then.
+    pub fn after_moves(
+        alloc: Global,
+        placed: Placed,
+        undos: UndoMap,
+        ropes: TextRopes,
+        pieces: &[Piece],
+    ) -> Result<Content, OutOfMemory>
+        requires texts { TakeTexts placed.moves ropes.shown ropes.hidden (texts pieces.now) }
+        requires room { length ropes.shown + length ropes.hidden + text_total pieces.now
+            ≤ 2 ^ 40 }
+        ensures { IfOk result (λ c. IsMoved c placed undos ropes.shown ropes.hidden
+            (texts pieces.now)) }
+    {
+        let Placed {
+            fragments,
+            index,
+            moves,
+        } = placed;
+        let TextRopes { shown, hidden } = ropes;
+        let ropes = apply_moves_into(alloc, shown, hidden, moves.as_slice(), pieces)?;
+        Ok(Content {
+            fragments,
+            index,
+            undos,
+            text: ropes.shown,
+            hidden: ropes.hidden,
+        })
+    }
+}
+
+// The edits that counts are of.
+fn edits_of(alloc: Global, counts: &[UndoCount]) -> Result<Vec<Lamport>, OutOfMemory>
+    ensures { IfOk result (λ ts. ts.items ≡ map (λ c. c.edit) counts.now) }
+{
+    let mut edits = Vec::with_capacity(alloc, counts.len())?;
+    for count in counts {
+        edits.push(count.edit)?;
+    }
+    Ok(edits)
 }
 
 // Both texts of a base.

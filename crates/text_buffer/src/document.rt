@@ -1,9 +1,8 @@
 //! A history, and what it makes.
-ghost use Rattle.std.specs.Prelude.{◌≡◌, ◌+◌, ◌-◌, ◌^◌, ◌≤◌, ℕ, List, ◌++◌, ◌∷◌, [], None, length, map, IfOk, OnErr, OnOk, option_map, string_bytes};
+ghost use Rattle.std.specs.Prelude.{◌≡◌, ◌+◌, ◌-◌, ◌^◌, ◌≤◌, ℕ, List, ◌++◌, ◌∷◌, [], None, length, IfOk, OnErr, OnOk, option_map, string_bytes};
 ghost use Rattle.std.specs.Arc.{arc_value};
 ghost use Rattle.lamport_clock.specs.Clocks.{clock_after};
 ghost use Rattle.lamport_clock.specs.Versions.{raise};
-ghost use Rattle.op_model.specs.declared.operation.Operation.TheVariants.{Edit, Undo};
 ghost use Rattle.op_model.specs.declared.operation.Piece.{Piece};
 ghost use Rattle.op_model.specs.Domains.{IsProper};
 ghost use Rattle.op_model.specs.Operations.{bytes_of, entries_of, pieces_of, stamp_of, text_total};
@@ -27,10 +26,9 @@ use applied_ops::AppliedList;
 use deferred_ops::Deferred;
 use lamport_clock::{Lamport, Version};
 use op_answers::{Verdict, judge};
-use op_model::{EditOp, Limits, Operation, Piece, Pieces, Text, UndoCount, UndoOp, Unit};
-use remote_edit::{Placed, mark_undo_by_index, place_local, place_remote};
+use op_model::{EditOp, Limits, Operation, Piece, Pieces, Text, Unit};
+use remote_edit::{Placed, place_local};
 use rope_chunks::Rope;
-use rope_edits::apply_moves;
 use std::alloc::Global;
 use std::marker::Model;
 use std::sync::Arc;
@@ -222,6 +220,41 @@ impl Document {
         self.push(op, adds, content)
     }
 
+    /// The document with one operation more, which is good. This costs what `apply` does, but what no other document
+    /// shares changes in place, the version too.
+    ///
+    /// # Errors
+    ///
+    /// Fails only if an allocation fails. The document and the operation are dropped then.
+    pub fn with_operation(self, op: Operation) -> Result<Document, OutOfMemory>
+        requires { MayGrow self op }
+        ensures { IfOk result (λ d. d ≡ self ++ op ∷ []) }
+    {
+        let Document {
+            alloc,
+            mut operations,
+            clock,
+            version,
+            content,
+            bytes,
+            entries,
+        } = self;
+        let stamp = op.stamp();
+        let adds = size(&op);
+        let content = content.with_operation(alloc, &op)?;
+        let version = raise_version(alloc, version, stamp)?;
+        operations.push(alloc, op)?;
+        Ok(Document {
+            alloc,
+            operations,
+            clock: after(clock, stamp),
+            version,
+            content,
+            bytes: bytes + adds.0 as u64,
+            entries: entries + adds.1,
+        })
+    }
+
     /// Makes an edit of changes that meet no fault, and appends it. Returns the edit; the document keeps a copy, which shares its
     /// texts. This costs what `apply` does, and two descents for each change. A step is counted for each node that is made in the
     /// tree of fragments.
@@ -286,43 +319,8 @@ impl Document {
         requires { MayGrow self.now op.now }
         ensures { IfOk result (λ c. IsContent c (self.now ++ op.now ∷ [])) }
     {
-        match op {
-            Operation::Edit(edit) => self.with_edit(edit),
-            Operation::Undo(undo) => self.with_undo(undo),
-        }
-    }
-
-    // The content of the history with an edit that is good.
-    fn with_edit(&self, edit: &EditOp) -> Result<Content, OutOfMemory>
-        requires { MayGrow self.now (Edit edit.now) }
-        ensures { IfOk result (λ c. IsContent c (self.now ++ Edit edit.now ∷ [])) }
-    {
-        let placed = place_remote(
-            self.alloc,
-            &self.content.fragments,
-            &self.content.index,
-            &self.content.undos,
-            edit,
-        )?;
-        self.content_of(placed, self.content.undos.share()?, edit.pieces.as_slice())
-    }
-
-    // The content of the history with an undo that is good.
-    fn with_undo(&self, undo: &UndoOp) -> Result<Content, OutOfMemory>
-        requires { MayGrow self.now (Undo undo.now) }
-        ensures { IfOk result (λ c. IsContent c (self.now ++ Undo undo.now ∷ [])) }
-    {
-        let undos = self.content.undos.with_undo(self.alloc, undo)?;
-        let edits = edits_of(self.alloc, undo.counts.as_slice())?;
-        let placed = mark_undo_by_index(
-            self.alloc,
-            &self.content.fragments,
-            &self.content.index,
-            &undos,
-            undo.stamp,
-            edits.as_slice(),
-        )?;
-        self.content_of(placed, undos, &[])
+        let content = self.content.share()?;
+        content.with_operation(self.alloc, op)
     }
 
     // The fragments and the index that an operation makes, with both texts after its moves.
@@ -335,22 +333,11 @@ impl Document {
         requires texts { TakeTexts placed.moves (text self.now) (hidden_text self.now)
             (texts pieces.now) }
         requires room { bytes_held self.now + text_total pieces.now ≤ 2 ^ 40 }
-        ensures { IfOk result (λ c. IsMoved c placed undos self.now (texts pieces.now)) }
+        ensures { IfOk result (λ c. IsMoved c placed undos (text self.now) (hidden_text self.now)
+            (texts pieces.now)) }
     {
-        let texts = apply_moves(
-            self.alloc,
-            &self.content.text,
-            &self.content.hidden,
-            placed.moves.as_slice(),
-            pieces,
-        )?;
-        Ok(Content {
-            fragments: placed.fragments,
-            index: placed.index,
-            undos,
-            text: texts.shown,
-            hidden: texts.hidden,
-        })
+        let ropes = self.content.share_texts()?;
+        Content::after_moves(self.alloc, placed, undos, ropes, pieces)
     }
 
     // Appends an operation that is good and adds these bytes and entries, with the content of the history that has it.
@@ -420,15 +407,20 @@ fn version_with(
     Ok(Arc::new(alloc, version)?)
 }
 
-// The edits that counts are of.
-fn edits_of(alloc: Global, counts: &[UndoCount]) -> Result<Vec<Lamport>, OutOfMemory>
-    ensures { IfOk result (λ ts. ts.items ≡ map (λ c. c.edit) counts.now) }
+// The version with a stamp. One that nobody shares is raised in place. If an allocation fails, it is dropped.
+fn raise_version(
+    alloc: Global,
+    version: Arc<Version>,
+    stamp: Lamport,
+) -> Result<Arc<Version>, OutOfMemory>
+    ensures { IfOk result (λ v. arc_value v ≡ raise (arc_value version) stamp) }
 {
-    let mut edits = Vec::with_capacity(alloc, counts.len())?;
-    for count in counts {
-        edits.push(count.edit)?;
+    let mut version = version;
+    match Arc::get_mut(&mut version) {
+        Some(alone) => alone.observe(stamp)?,
+        None => return version_with(alloc, &version, stamp),
     }
-    Ok(edits)
+    Ok(version)
 }
 
 // The value of a clock that has seen a stamp.

@@ -3,17 +3,19 @@ ghost use Rattle.std.specs.Prelude.{◌≡◌, ◌⊎◌, ◌≤◌, ◌^◌, �
 ghost use Rattle.std.specs.List.{filter};
 ghost use Rattle.op_model.specs.Answers.Answer.{Good};
 ghost use Rattle.op_model.specs.Cells.{cells};
+ghost use Rattle.op_model.specs.Domains.{IsProper};
 ghost use Rattle.op_model.specs.Histories.{base};
 ghost use Rattle.op_model.specs.Laid.{replay_by_stamps};
 ghost use Rattle.op_model.specs.Lawful.{Lawful};
 ghost use Rattle.op_model.specs.Opened.{open_fault, state_of};
 ghost use Rattle.op_model.specs.Operations.{pieces_of};
 ghost use Rattle.op_model.specs.Rules.{answer_under, rule_fault};
+ghost use Rattle.op_model.specs.Settled.{full_fault};
 ghost use Rattle.op_model.specs.Shown.{byte, shows, text};
 ghost use Rattle.op_model.specs.declared.faults.OpenFault.{OpenFault};
 ghost use Rattle.op_model.specs.declared.operation.Operation.{Operation};
 ghost use Rattle.text_buffer.specs.Bases.{first_text};
-ghost use Rattle.text_buffer.specs.Buffer.{after_apply, answer_to, state};
+ghost use Rattle.text_buffer.specs.Buffer.{after_apply, answer_to, rules, state};
 ghost use Rattle.text_buffer.specs.Opening.{IsOpenFault, first_fault, next_fault, opened_with, rules_of};
 
 use crate::content::BASE;
@@ -98,9 +100,9 @@ impl Buffer {
     /// it ever made and sent. With an older list it makes a second operation of a stamp that others may have applied
     /// already; they refuse it as a `Conflict`, and all that depends on it.
     ///
-    /// Each operation costs what it costs to take it where nothing waits. The list is gone through in its order, so a
-    /// fault of its last operation costs the opening of all before it, and one of its first operation costs no more
-    /// than to read that.
+    /// Each operation costs what it costs to take it where nothing waits, but the buffer changes in place, and the
+    /// operation is kept as it is. The list is gone through in its order, so a fault of its last operation costs the
+    /// opening of all before it, and one of its first operation costs no more than to read that.
     ///
     /// # Errors
     ///
@@ -136,7 +138,7 @@ impl Buffer {
         };
         let mut buffer = Buffer::open_first(alloc, replica, first, limits, endings)?;
         while let Some(op) = ops.next() {
-            buffer.open_next(op)?;
+            buffer = buffer.open_next(op)?;
         }
         Ok(buffer)
     }
@@ -199,12 +201,12 @@ impl Buffer {
         })
     }
 
-    // Applies the next operation of a list, unless it meets a fault.
-    fn open_next(&mut self, op: Operation) -> Result<(), OpenFault>
-        ensures ok { OnOk result (answer_to self.old op ≡ Good) }
-        ensures new { OnOk result (self.new ≡ after_apply self.old op) }
-        ensures fault { IfErr result (λ e. (next_fault self.old op ≡ Some e)
-            ⊎ ((answer_to self.old op ≡ Good) × (e ≡ OpenFault.OutOfMemory))) }
+    // The buffer with the next operation of a list, unless that meets a fault.
+    fn open_next(self, op: Operation) -> Result<Buffer, OpenFault>
+        ensures ok { OnOk result (answer_to self op ≡ Good) }
+        ensures new { IfOk result (λ b. b ≡ after_apply self op) }
+        ensures fault { IfErr result (λ e. (next_fault self op ≡ Some e)
+            ⊎ ((answer_to self op ≡ Good) × (e ≡ OpenFault.OutOfMemory))) }
     {
         let i = self.count_applied();
         match self.judge(&op) {
@@ -215,22 +217,52 @@ impl Buffer {
         }
     }
 
-    // Applies operation `i` of a list, which is good, unless it would exceed a limit.
-    fn open_good(&mut self, i: u64, op: Operation) -> Result<(), OpenFault>
-        requires index { i ≡ length self.old.history }
-        requires good { answer_under self.old.endings self.old.history self.old.waiting op ≡ Good }
-        ensures ok { OnOk result (answer_to self.old op ≡ Good) }
-        ensures new { OnOk result (self.new ≡ after_apply self.old op) }
-        ensures fault { IfErr result (λ e. (next_fault self.old op ≡ Some e)
-            ⊎ ((answer_to self.old op ≡ Good) × (e ≡ OpenFault.OutOfMemory))) }
+    // The buffer with operation `i` of a list, which is good, unless it would exceed a limit.
+    fn open_good(self, i: u64, op: Operation) -> Result<Buffer, OpenFault>
+        requires index { i ≡ length self.history }
+        requires good { answer_under self.endings self.history self.waiting op ≡ Good }
+        ensures ok { OnOk result (answer_to self op ≡ Good) }
+        ensures new { IfOk result (λ b. b ≡ after_apply self op) }
+        ensures fault { IfErr result (λ e. (next_fault self op ≡ Some e)
+            ⊎ ((answer_to self op ≡ Good) × (e ≡ OpenFault.OutOfMemory))) }
     {
         if let Some(fault) = self.full(&op) {
             return Err(OpenFault::Op(i, fault));
         }
-        match self.apply(op) {
-            Ok(()) => Ok(()),
+        match self.with_operation(op) {
+            Ok(buffer) => Ok(buffer),
             Err(_) => Err(OpenFault::OutOfMemory),
         }
+    }
+
+    // The buffer with one operation more, which is good and passes no limit. What nothing else shares changes in
+    // place. If an allocation fails, the buffer and the operation are dropped.
+    fn with_operation(self, op: Operation) -> Result<Buffer, OutOfMemory>
+        requires proper { IsProper op }
+        requires good { answer_under self.endings self.history [] op ≡ Good }
+        requires room { full_fault (rules self) self.history op ≡ None }
+        ensures { IfOk result (λ b. b ≡ after_apply self op) }
+    {
+        let Buffer {
+            alloc,
+            replica,
+            document,
+            waiting,
+            refused,
+            limits,
+            endings,
+        } = self;
+        let document = document.with_operation(op)?;
+        document.known();
+        Ok(Buffer {
+            alloc,
+            replica,
+            document,
+            waiting,
+            refused,
+            limits,
+            endings,
+        })
     }
 
     // How many operations are applied, the base among them.

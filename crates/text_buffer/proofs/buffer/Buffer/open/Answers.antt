@@ -16,25 +16,25 @@ loop-op-preserved c =
     let op = c.in-Some-next.op in
     let rest = into_iter_items c.next-in-loop-op.new.self in
     let was = c.loop-op.invariant in
-    let new = c.in_ok-open_next.ensures.new in
+    let new = c.in_ok-buffer-2.ensures.new in
     let is : IsOpened c.args.replica c.args.limits c.args.endings b = (was.buffer, was.opens) in
-    let now = opened_next c.args.replica c.args.limits c.args.endings b c.open_next.new.self op is c.in_ok-open_next.ensures.ok new in
+    let now = opened_next c.args.replica c.args.limits c.args.endings b c.in_ok-buffer-2.buffer op is c.in_ok-buffer-2.ensures.ok new in
     record {
       split = ap (λ (x : BufferState). x.history ++ rest) new ∙ append_assoc b.history (op ∷ []) rest ∙ ap (λ (x : List Operation). b.history ++ x) (sym c.in-Some-next.ensures.items) ∙ was.split;
       buffer = now.0;
       opens = now.1;
     }
 
-pub returns-in_err-open_next-clause-fault : goal.returns-in_err-open_next-clause-fault
-returns-in_err-open_next-clause-fault c =
+pub returns-in_err-buffer-2-clause-fault : goal.returns-in_err-buffer-2-clause-fault
+returns-in_err-buffer-2-clause-fault c =
     let b = c.loop-op.buffer in
     let op = c.in-Some-next.op in
     let rest = into_iter_items c.next-in-loop-op.new.self in
     let was = c.loop-op.invariant in
     let is : IsOpened c.args.replica c.args.limits c.args.endings b = (was.buffer, was.opens) in
-    let p = err_from_is_err_and c.from_residual-in_err-open_next.result c.from_residual-in_err-open_next.ensures.1 in
-    rw (p.1, p.2) (stops_next c.args.replica c.args.limits c.args.endings b op rest c.args.ops.items c.in_err-open_next.field-0.0 is
-    (ap (λ (x : List Operation). b.history ++ x) (sym c.in-Some-next.ensures.items) ∙ was.split) c.in_err-open_next.ensures.fault)
+    let p = err_from_is_err_and c.from_residual-in_err-buffer-2.result c.from_residual-in_err-buffer-2.ensures.1 in
+    rw (p.1, p.2) (stops_next c.args.replica c.args.limits c.args.endings b op rest c.args.ops.items c.in_err-buffer-2.field-0.0 is
+    (ap (λ (x : List Operation). b.history ++ x) (sym c.in-Some-next.ensures.items) ∙ was.split) c.in_err-buffer-2.ensures.fault)
 
 pub returns-clause-lawful : goal.returns-clause-lawful
 returns-clause-lawful c =

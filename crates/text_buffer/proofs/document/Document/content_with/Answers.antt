@@ -1,17 +1,20 @@
-use Rattle.std.proofs.Common.{[], ◌∷◌, ◌++◌, sym, subst}
 use Rattle.std.proofs.lemmas.Result.{IfOk-weaker}
-use Rattle.op_model.specs.declared.operation.Operation.{Operation}
-use Rattle.text_buffer.specs.Document.{IsContent, MayGrow}
+use Rattle.text_buffer.proofs.Contents.{content_seen, history_seen}
 use Rattle.text_buffer.proofs.document.Document.content_with.Goals as goal
 
-pub with_edit-requires : goal.with_edit-requires
-with_edit-requires c = subst (MayGrow c.args.self.now) c.in-Edit.is c.requires
+pub with_operation-requires : goal.with_operation-requires
+with_operation-requires c =
+    let h = c.args.self.now in
+    record {
+      history = h;
+      content = c.in_ok-content.ensures h (content_seen c.self.inside h c.self.invariant c.self.view_is);
+      known = history_seen c.self.inside h c.self.invariant c.self.view_is;
+      grows = c.requires;
+    }
 
-pub returns-in-Edit : goal.returns-in-Edit
-returns-in-Edit c = IfOk-weaker c.with_edit.result _ _ (λ x f. subst (λ (o : Operation). IsContent x (c.args.self.now ++ o ∷ [])) (sym c.in-Edit.is) f) c.with_edit.ensures
-
-pub with_undo-requires : goal.with_undo-requires
-with_undo-requires c = subst (MayGrow c.args.self.now) c.in-Undo.is c.requires
-
-pub returns-in-Undo : goal.returns-in-Undo
-returns-in-Undo c = IfOk-weaker c.with_undo.result _ _ (λ x f. subst (λ (o : Operation). IsContent x (c.args.self.now ++ o ∷ [])) (sym c.in-Undo.is) f) c.with_undo.ensures
+pub returns : goal.returns
+returns c =
+    let h = c.args.self.now in
+    let k = c.in_ok-content.ensures h (content_seen c.self.inside h c.self.invariant c.self.view_is) in
+    let s = history_seen c.self.inside h c.self.invariant c.self.view_is in
+    IfOk-weaker c.with_operation.result _ _ (λ x f. f h k s c.requires) c.with_operation.ensures

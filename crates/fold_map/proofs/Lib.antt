@@ -1,0 +1,9 @@
+pub mod Cuts
+pub mod ShownParts
+pub mod Numbers
+pub mod Removed
+pub mod Followed
+pub mod SpanLists
+pub mod Making
+pub mod Answering
+pub mod Crossing

@@ -1,0 +1,6 @@
+pub mod Folds
+pub mod State
+pub mod Calls
+pub mod Numbered
+pub mod Passed
+pub mod Laws
