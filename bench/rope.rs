@@ -1,7 +1,7 @@
 //! A plain rope in Rust, with the works of `tree_bench rope` of `crates/tree_bench`: usage: rope BYTES COUNT
 //!
 //! It is a copy-on-write B-tree of at most 12 entries a node behind `Arc`, over chunks of at most 128 bytes. A node that
-//! loses entries is dropped when it is empty and not merged before, and it refuses nothing on want of memory.
+//! loses entries is dropped when it is empty and not merged before, and it reports no failed allocation.
 use std::hint::black_box;
 use std::sync::Arc;
 use std::time::Instant;

@@ -1,4 +1,4 @@
-//! The searches of `tree_bench search` over one contiguous text, twice: by the standard library's `str::find`, begun anew
+//! The searches of `tree_bench search` over one contiguous text, twice: by the standard library's `str::find`, begun again
 //! one character past each match, and by a linear matcher with a failure table. `search flat|linear BYTES`.
 use std::time::Instant;
 

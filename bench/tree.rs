@@ -1,6 +1,6 @@
 //! Work on trees in plain Rust, the same as `tree_bench tree` of `crates/tree_bench` does: usage `tree tree|map COUNT`. `tree` is an `Arc` B-tree
 //! whose nodes hold 6 to 12 entries and the sum of what lies below them, an entry being an item with its sum behind an `Arc`, as in the
-//! proved tree; `map` is the standard `BTreeMap`. Nothing that is made before a work, or let go after it, is in its time.
+//! proved tree; `map` is the standard `BTreeMap`. What is made before a work, or dropped after it, is not in its time.
 use std::collections::BTreeMap;
 use std::sync::Arc;
 use std::time::Instant;
