@@ -3,7 +3,7 @@
 use anyhow::Result;
 use applied_ops::Applied;
 use lamport_clock::Version;
-use op_model::Operation;
+use op_model::{Operation, TextEdit};
 use std::alloc::Global;
 use std::io::Print;
 use text_buffer::Buffer;
@@ -17,8 +17,18 @@ pub fn take_shown(
 ) -> Result<()> {
     let before = author.version().copy(alloc)?;
     let _answer = author.take(op)?;
-    let edits = author.snapshot()?.since(&before)?;
-    for edit in edits.as_slice() {
+    show_changes(rt, author, &before)
+}
+
+// Says which ranges of the text changed since a version.
+fn show_changes(rt: &impl Print, author: &Buffer, before: &Version) -> Result<()> {
+    let snapshot = author.snapshot()?;
+    let edits = snapshot.since(before)?;
+    show_edits(rt, edits.as_slice())
+}
+
+fn show_edits(rt: &impl Print, edits: &[TextEdit]) -> Result<()> {
+    for edit in edits {
         let (old, new) = (edit.old, edit.new);
         println!(rt; "bytes {}..{} are now {}..{}", old.0, old.1, new.0, new.1)?;
     }

@@ -7,7 +7,9 @@ mod showing;
 use crate::exchange::{send_all, take_shown};
 use crate::showing::{show, show_place, show_rows};
 use anyhow::Result;
+use lamport_clock::Lamport;
 use op_model::{Operation, Piece, Text};
+use rope_chunks::Rope;
 use std::alloc::Global;
 use std::io::Print;
 use text_buffer::{Anchor, Bias, Buffer, EditFault, Limits, agree};
@@ -52,15 +54,27 @@ fn edit_both(rt: &impl Print, alloc: Global, ann: &mut Buffer, ben: &mut Buffer)
     Ok(())
 }
 
-// An author undoes an edit of another one, and redoes it; what the other one has not seen of this goes to it at once.
+// Undoes an edit, whoever made it, or redoes it if it is undone. The operation is not sent here: a peer asks for what it lacks.
+fn undo(author: &mut Buffer, edit: Lamport) -> Result<()> {
+    let _op = author.undo(&[edit])?;
+    Ok(())
+}
+
+// An author takes an edit of another one, undoes it, redoes it and undoes it again; then the other one gets what it lacks.
 fn undo_and_send(alloc: Global, ann: &mut Buffer, ben: &mut Buffer) -> Result<()> {
     let edit = replace(alloc, ben, 6, 6, "here, ")?;
     let stamp = edit.stamp();
     let _answer = ann.take(edit)?;
-    let _undo = ann.undo(&[stamp])?;
-    let _redo = ann.undo(&[stamp])?;
-    let _undo = ann.undo(&[stamp])?;
+    undo(ann, stamp)?;
+    undo(ann, stamp)?;
+    undo(ann, stamp)?;
     send_all(alloc, ann, ben)
+}
+
+// Two rows, as on a screen, and a position in one of them.
+fn show_screen(rt: &impl Print, text: &Rope) -> Result<()> {
+    show_rows(rt, text, 1, 3)?;
+    show_place(rt, text, PointUtf16 { row: 1, column: 8 })
 }
 
 // An anchor that keeps to the byte after an offset of the author's text.
@@ -77,8 +91,7 @@ fn play(rt: &impl Print, alloc: Global, ann: &mut Buffer, ben: &mut Buffer) -> R
     show(rt, alloc, ann, &sat)?;
     show(rt, alloc, ben, &sat)?;
     let snapshot = ben.snapshot()?;
-    show_rows(rt, snapshot.text(), 1, 3)?;
-    show_place(rt, snapshot.text(), PointUtf16 { row: 1, column: 8 })
+    show_screen(rt, snapshot.text())
 }
 
 fn main(rt: HostRuntime) -> Result<()> {
