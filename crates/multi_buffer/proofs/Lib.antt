@@ -1,0 +1,10 @@
+pub mod Sums
+pub mod Stops
+pub mod Sourced
+pub mod Boundaries
+pub mod Lines
+pub mod Answering
+pub mod Followed
+pub mod Versions
+pub mod Crossing
+mod Rows

@@ -1,0 +1,10 @@
+pub mod State
+pub mod Places
+pub mod Calls
+pub mod Laws
+pub mod Lengths
+pub mod LengthLaws
+pub mod Found
+pub mod Following
+pub mod Breaks
+pub mod Here
