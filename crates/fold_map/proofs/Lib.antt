@@ -3,7 +3,15 @@ pub mod ShownParts
 pub mod Numbers
 pub mod Removed
 pub mod Followed
-pub mod SpanLists
 pub mod Making
 pub mod Answering
 pub mod Crossing
+pub mod Permuted
+pub mod Named
+pub mod Runs
+pub mod Remade
+pub mod Fates
+pub mod Moved
+pub mod Synced
+pub mod Later
+pub mod Going

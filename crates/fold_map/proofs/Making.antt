@@ -4,6 +4,7 @@ use Rattle.std.specs.Prelude.{option_map}
 use Rattle.std.specs.List.{All, AllByRecursion}
 use Rattle.std.proofs.lemmas.Bool.{ltb-false, le-ltb, eqb-false}
 use Rattle.std.proofs.lemmas.List.{map_push}
+use Rattle.std.proofs.lemmas.Option.{same_Some}
 use Rattle.std.proofs.lemmas.List.Elements.{All-push, All-same}
 use Rattle.lamport_clock.specs.Versions.{Entries, first_unseen}
 use Rattle.op_model.specs.Choice.{first_of, when}
@@ -49,6 +50,10 @@ known_from : (b : Bool) (p o : ℕ) → cond b (Some p) None ≡ Some o → b �
 known_from true p o e = refl
 known_from false p o e = cc
 
+place_from : (b : Bool) (p o : ℕ) → cond b (Some p) None ≡ Some o → p ≡ o
+place_from true p o e = same_Some p o e
+place_from false p o e = cc
+
 module _ (h : History) (s e : ℕ) (f : fold_fault h s e ≡ None) where
   tests : (ltb e s ≡ false) × (ltb (length (text h)) e ≡ false) × (not (is_boundary (text h) s && is_boundary (text h) e) ≡ false) × (eqb s e ≡ false)
   tests = none_of_four (ltb e s) (ltb (length (text h)) e) (not (is_boundary (text h) s && is_boundary (text h) e)) (eqb s e) (Reversed 0) (PastEnd 0 (length (text h))) (InsideChar 0) EmptyRange f
@@ -77,6 +82,13 @@ module _ (h : History) (s e : ℕ) (f : fold_fault h s e ≡ None) where
         end = known_from (is_known h x.end) (place h x.end) e (b.2 x.end m.end);
         order = (made_anchors_stand_in_order h l s e x.start x.end).0 in_order m.start m.end;
       }
+
+  -- its range is s..e
+  pub made_places : Lawful h → AllByRecursion IsProper h → (x : Fold) → IsFoldOf h s e x → (place h x.start ≡ s) × (place h x.end ≡ e)
+  made_places l p x m = (
+    place_from (is_known h x.start) (place h x.start) s ((anchors_resolve h l p s start_faultless).3 x.start m.start),
+    place_from (is_known h x.end) (place h x.end) e ((anchors_resolve h l p e end_faultless).2 x.end m.end),
+  )
 
 -- ---- one fold more
 

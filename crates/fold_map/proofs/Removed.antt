@@ -1,4 +1,4 @@
--- Folds that are taken out by their numbers, one by one.
+-- How many folds are taken out, and which are left.
 use Rattle.std.proofs.Common.{◌≡◌, inl, inr, ℕ, ◌+◌, ◌-◌, ◌<◌, ◌≤◌, Some, Bool, true, false, Ok, not, cond, ltb, eqb, List, [], ◌∷◌, ◌++◌, length, map, take, drop, get_or, refl, sym, ap, ◌∙◌, subst, arith, append_assoc, nat_cmp, length-append}
 use Rattle.std.specs.Prelude.{slice_get}
 use Rattle.std.specs.List.{All, filter}
@@ -19,76 +19,9 @@ use Rattle.fold_map.specs.Numbered.{number_of, fold_of, folds_of, state_of, numb
 use Rattle.fold_map.specs.declared.fold.Fold.{Fold}
 use Rattle.fold_map.specs.declared.fold.NumberedFold.{NumberedFold}
 
-equal_tests : (p q : Bool) → p ≡ false → q ≡ true → cond p Less (cond q Equal Greater) ≡ Equal
-equal_tests p q e f = rw (e, f) refl
-
-equal_itself : (n : ℕ) → nat_cmp n n ≡ Equal
-equal_itself n = equal_tests (ltb n n) (eqb n n) (le-ltb n n (omega arith)) (eq-eqb n n refl)
-
-pub removed_here : (pre post : List NumberedFold) (x : NumberedFold) → Ascending nat_cmp number_of (pre ++ x ∷ post) → remove_key nat_cmp number_of (number_of x) (pre ++ x ∷ post) ≡ pre ++ post
-removed_here pre post x a =
-    let R : NumberedFold → NumberedFold → Type 0 = λ y z. nat_cmp (number_of y) (number_of z) ≡ Less in
-    let xs : List NumberedFold = pre ++ x ∷ post in
-    let n : ℕ = length pre in
-    let k : ℕ = number_of x in
-    let less : All (λ y. nat_cmp (number_of y) k ≡ Less) pre = λ i d l. All-head (R (get_or pre i d)) x post (AllPairs-cross R pre (x ∷ post) i d a l) in
-    let front : take n xs ≡ pre = take_at pre (x ∷ post) n refl in
-    let back : drop (n + 1) xs ≡ post = ap (λ (ys : List NumberedFold). drop (n + 1) ys) (sym (append_assoc pre (x ∷ []) post)) ∙ drop_at (pre ++ x ∷ []) post (n + 1) (length_push pre x) in
-    let p : IsPlace nat_cmp number_of k xs (Ok n) = place_item nat_cmp number_of nat_cmp_total k xs n x a (let m = length-append pre (x ∷ post) in omega arith) (sym (get_or_at pre x post x n refl)) (equal_itself k) (subst (All (λ y. nat_cmp (number_of y) k ≡ Less)) (sym front) less) in
-    ap (λ (ys : List NumberedFold). ys ++ above nat_cmp number_of k xs) (sym p.1 ∙ front) ∙ ap (λ (ys : List NumberedFold). pre ++ ys) (sym p.2 ∙ back)
-
--- one more fold is looked at: it stays or goes
-module _ (yes : NumberedFold → Bool) (fs : List NumberedFold) (i : ℕ) (x : NumberedFold) (l : i < length fs) (r : get_or fs i x ≡ x) where
-  abbrev pub no : NumberedFold → Bool
-  no f = not (yes f)
-
-  abbrev pub front : List NumberedFold
-  front = filter no (take i fs)
-
-  pub here : drop i fs ≡ x ∷ drop (i + 1) fs
-  here = drop_more fs i x l ∙ ap (λ (y : NumberedFold). y ∷ drop (i + 1) fs) r
-
-  more_no : filter no (take (i + 1) fs) ≡ front ++ cond (not (yes x)) (x ∷ []) []
-  more_no = filter_more no fs i x l ∙ ap (λ (y : NumberedFold). front ++ cond (not (yes y)) (y ∷ []) []) r
-
-  pub stays : yes x ≡ false → front ++ drop i fs ≡ filter no (take (i + 1) fs) ++ drop (i + 1) fs
-  stays e = ap (λ (ys : List NumberedFold). front ++ ys) here ∙ sym (append_assoc front (x ∷ []) (drop (i + 1) fs))
-      ∙ ap (λ (ys : List NumberedFold). ys ++ drop (i + 1) fs) (sym (more_no ∙ ap (λ (b : Bool). front ++ cond (not b) (x ∷ []) []) e))
-
-  pub goes : yes x ≡ true → front ++ drop (i + 1) fs ≡ filter no (take (i + 1) fs) ++ drop (i + 1) fs
-  goes e = ap (λ (ys : List NumberedFold). ys ++ drop (i + 1) fs) (sym (more_no ∙ ap (λ (b : Bool). front ++ cond (not b) (x ∷ []) []) e ∙ append-nil front))
-
-  -- the list without fold i
-  pub removed : Ascending nat_cmp number_of (front ++ drop i fs) → remove_key nat_cmp number_of (number_of x) (front ++ drop i fs) ≡ front ++ drop (i + 1) fs
-  removed a = ap (λ (ys : List NumberedFold). remove_key nat_cmp number_of (number_of x) (front ++ ys)) here
-      ∙ removed_here front (drop (i + 1) fs) x (subst (λ (ys : List NumberedFold). Ascending nat_cmp number_of (front ++ ys)) here a)
-
--- a loop over folds takes out those whose ranges share a byte
 module _ (h : History) (s e : ℕ) where
   abbrev pub yes_here : NumberedFold → Bool
   yes_here f = fold_shares h s e f
-
-  shared_no : (x : NumberedFold) (fs : List NumberedFold) → fold_shares h s e x ≡ false → without_shared s e (numbered_range h x) fs ≡ fs
-  shared_no x fs t = rw t refl
-
-  shared_yes : (x : NumberedFold) (fs : List NumberedFold) → fold_shares h s e x ≡ true → without_shared s e (numbered_range h x) fs ≡ remove_key nat_cmp number_of (number_of x) fs
-  shared_yes x fs t = rw t refl
-
-  pub one_more_kept : (fs kept : List NumberedFold) (i : ℕ) (x : NumberedFold) → slice_get fs i ≡ Some x → kept ≡ filter (λ f. not (fold_shares h s e f)) (take i fs) ++ drop i fs → Ascending nat_cmp number_of kept
-      → without_shared s e (numbered_range h x) kept ≡ filter (λ f. not (fold_shares h s e f)) (take (i + 1) fs) ++ drop (i + 1) fs
-  one_more_kept fs kept i x g k a =
-      let l = slice_get_within fs i x g in
-      let r = get_or_from_slice_get fs i x x g in
-      elim (cases_Bool (fold_shares h s e x)) [
-        | inl t ↦ shared_yes x kept t ∙ ap (λ (ys : List NumberedFold). remove_key nat_cmp number_of (number_of x) ys) k
-            ∙ removed yes_here fs i x l r (subst (λ (ys : List NumberedFold). Ascending nat_cmp number_of ys) k a) ∙ goes yes_here fs i x l r t
-        | inr t ↦ shared_no x kept t ∙ k ∙ stays yes_here fs i x l r t
-      ]
-
-  pub all_kept : (fs kept : List NumberedFold) (i : ℕ) → kept ≡ filter (λ f. not (fold_shares h s e f)) (take i fs) ++ drop i fs → length fs ≤ i → kept ≡ filter (λ f. not (fold_shares h s e f)) fs
-  all_kept fs kept i k l =
-      k ∙ ap (λ (ys : List NumberedFold). filter (λ f. not (fold_shares h s e f)) ys ++ drop i fs) (take_all i fs l)
-      ∙ ap (λ (ys : List NumberedFold). filter (λ f. not (fold_shares h s e f)) fs ++ ys) (drop_all i fs l) ∙ append-nil (filter (λ f. not (fold_shares h s e f)) fs)
 
   -- as many are gone as shared a byte
   pub gone_count : (fs kept : List NumberedFold) → kept ≡ filter (λ f. not (fold_shares h s e f)) fs → length fs ≡ length (filter yes_here fs) + length kept

@@ -3,4 +3,5 @@ pub mod State
 pub mod Calls
 pub mod Numbered
 pub mod Passed
+pub mod Windows
 pub mod Laws

@@ -1,14 +1,15 @@
 //! Folding and unfolding ranges.
-ghost use Rattle.std.specs.Prelude.{◌≡◌, ◌⊎◌, ◌≤◌, not, length, None, Some, IfErr, IfOk, OnErr, OnOk};
+ghost use Rattle.std.specs.Prelude.{◌≡◌, ◌⊎◌, ◌++◌, ◌∷◌, [], length, None, Some, IfErr, IfOk, OnErr, OnOk};
 ghost use Rattle.std.specs.List.{filter};
 ghost use Rattle.op_model.specs.Edits.{is_boundary};
 ghost use Rattle.fold_map.specs.Calls.{fold_fault, shares, unfolded, IsFolded, IsFoldOf};
-ghost use Rattle.fold_map.specs.Numbered.{fold_shares, range_shares, without_shared, AreFolds};
+ghost use Rattle.fold_map.specs.Numbered.{without_shared};
+ghost use Rattle.fold_map.specs.Windows.{without_each};
 
 use crate::fold::Fold;
 use crate::folds::Folds;
-use crate::made::{range_of, spans_with};
 use crate::map::FoldMap;
+use crate::windows::{made_again, ranges_in, retain_apart, shares};
 use crate::{FoldFault, OutOfMemory, Snapshot};
 use fold_spans::FoldRange;
 use rope_chunks::Rope;
@@ -56,11 +57,12 @@ fn fold_of(snapshot: &Snapshot, s: u64, e: u64) -> Fold
     Fold { start, end }
 }
 
-// Whether a range shares a byte with `s..e`.
-fn shares(range: &FoldRange, s: u64, e: u64) -> bool
-    ensures { result ≡ range_shares s e range.now }
+// Puts a range after others.
+fn add(ranges: &mut Vec<FoldRange>, range: FoldRange) -> Result<(), OutOfMemory>
+    ensures { OnOk result (ranges.new.items ≡ ranges.old.items ++ range ∷ []) }
 {
-    range.start.max(s) < range.end.min(e)
+    ranges.push(range)?;
+    Ok(())
 }
 
 // Takes out the fold of a range if the range shares a byte with `s..e`. If an allocation fails, the folds are as before.
@@ -79,26 +81,19 @@ fn remove_if_shared(
     Ok(())
 }
 
-// The folds whose ranges share no byte with `s..e`.
+// The folds without those of the ranges that share a byte with `s..e`.
 fn kept_folds(
     alloc: Global,
-    snapshot: &Snapshot,
     folds: &Folds,
+    ranges: &[FoldRange],
     s: u64,
     e: u64,
 ) -> Result<Folds, OutOfMemory>
-    requires { AreFolds snapshot.now folds.now }
-    ensures { IfOk result (λ kept. kept
-        ≡ filter (λ f. not (fold_shares snapshot.now s e f)) folds.now) }
+    ensures { IfOk result (λ kept. kept ≡ without_each s e ranges.now folds.now) }
 {
     let mut kept = folds.share()?;
-    for index in 0..folds.len() {
-        let Some(numbered) = folds.get(index) else {
-            unreachable!()
-        };
-        kept.known();
-        let range = range_of(snapshot, numbered);
-        remove_if_shared(&mut kept, alloc, &range, s, e)?;
+    for range in ranges {
+        remove_if_shared(&mut kept, alloc, range, s, e)?;
     }
     Ok(kept)
 }
@@ -122,10 +117,25 @@ impl FoldMap {
             return Err(fault);
         }
         self.snapshot.known();
+        self.folds.known();
         let fold = fold_of(&self.snapshot, s, e);
+        let window = self.spans.touching(s, e);
+        let mut ranges = ranges_in(
+            self.alloc,
+            &self.snapshot,
+            &self.folds,
+            &self.spans,
+            &window,
+        )?;
         let mut folds = self.folds.share()?;
-        folds.push(self.alloc, fold)?;
-        let spans = spans_with(self.alloc, &self.snapshot, &folds)?;
+        let number = folds.push(self.alloc, fold)?;
+        let range = FoldRange {
+            start: s,
+            end: e,
+            number,
+        };
+        add(&mut ranges, range)?;
+        let spans = made_again(self.alloc, &self.spans, &window, ranges)?;
         self.folds = folds;
         self.spans = spans;
         Ok(())
@@ -149,8 +159,21 @@ impl FoldMap {
         if let Some(fault) = fold_fault(&self.snapshot, s, e) {
             return Err(fault);
         }
-        let folds = kept_folds(self.alloc, &self.snapshot, &self.folds, s, e)?;
-        let spans = spans_with(self.alloc, &self.snapshot, &folds)?;
+        self.snapshot.known();
+        self.folds.known();
+        // With the neighbours of the spans that the range touches, so that open bytes are joined.
+        let near = self.spans.touching(s, e);
+        let window = self.spans.touching(near.start, near.end);
+        let mut ranges = ranges_in(
+            self.alloc,
+            &self.snapshot,
+            &self.folds,
+            &self.spans,
+            &window,
+        )?;
+        let folds = kept_folds(self.alloc, &self.folds, &ranges, s, e)?;
+        retain_apart(&mut ranges, s, e);
+        let spans = made_again(self.alloc, &self.spans, &window, ranges)?;
         let count = self.folds.len() - folds.len();
         self.folds = folds;
         self.spans = spans;

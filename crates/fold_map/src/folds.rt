@@ -2,7 +2,7 @@
 ghost use Rattle.std.specs.Prelude.{◌≡◌, ℕ, ◌++◌, ◌∷◌, [], length, slice_get, IfOk, OnErr, OnOk};
 ghost use Rattle.std.specs.Option.{option_copied};
 ghost use Rattle.std.specs.Ordering.{nat_cmp};
-ghost use Rattle.sum_tree.specs.Keyed.{remove_key};
+ghost use Rattle.sum_tree.specs.Keyed.{item_of_key, remove_key};
 ghost use Rattle.fold_map.specs.Numbered.{number_of, fold_of, folds_of, AreNumbered};
 
 use crate::OutOfMemory;
@@ -68,14 +68,20 @@ impl Folds {
         self.tree.get(index)
     }
 
-    /// Puts a fold last, under a new number. O(log n).
+    /// The fold of a number. O(log n); does not allocate.
+    pub(crate) fn find(&self, number: u64) -> Option<&NumberedFold>
+        ensures { option_copied result ≡ item_of_key nat_cmp number_of number self.now }
+    {
+        self.tree.find(&number)
+    }
+
+    /// Puts a fold last, under a new number, and returns the number. O(log n).
     ///
     /// # Errors
     ///
     /// Fails if an allocation fails, or at 2^40 folds or after 2^64 - 1 of them. The folds are then as before.
-    pub(crate) fn push(&mut self, alloc: Global, fold: Fold) -> Result<(), OutOfMemory>
-        ensures ok { OnOk result ((n : ℕ) × (self.new ≡ self.old
-            ++ record { number = n; fold = fold } ∷ [])) }
+    pub(crate) fn push(&mut self, alloc: Global, fold: Fold) -> Result<u64, OutOfMemory>
+        ensures ok { IfOk result (λ n. self.new ≡ self.old ++ record { number = n; fold = fold } ∷ []) }
         ensures err { OnErr result (self.new ≡ self.old) }
     {
         if self.tree.len() >= MOST || self.next == u64::MAX {
@@ -84,7 +90,7 @@ impl Folds {
         let number = self.next;
         self.tree.push(alloc, NumberedFold { number, fold })?;
         self.next += 1;
-        Ok(())
+        Ok(number)
     }
 
     /// Takes out the fold of a number, if there is one. O(log n).

@@ -6,10 +6,12 @@ mod fold;
 mod folding;
 mod folds;
 mod laws;
-mod made;
 mod map;
 mod places;
+mod ranges;
 mod shown;
+mod syncing;
+mod windows;
 
 pub use faults::{FoldFault, SyncFault};
 pub use fold::Fold;

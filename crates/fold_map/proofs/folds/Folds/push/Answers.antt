@@ -8,4 +8,4 @@ invariant_of-self-2 c =
     more_numbered c.self.inside.next _ c.self.inside.tree.items c.push.new.self.items (record { number = c.self.inside.next; fold = c.args.fold }) c.self.invariant refl refl (omega (arith, c.len.ensures)) c.in_ok-push.ensures.ok
 
 pub returns-clause-ok : goal.returns-clause-ok
-returns-clause-ok c = (c.self.inside.next, c.in_ok-push.ensures.ok ∙ ap (λ (fs : List NumberedFold). fs ++ record { number = c.self.inside.next; fold = c.args.fold } ∷ []) c.self.view_is)
+returns-clause-ok c = c.in_ok-push.ensures.ok ∙ ap (λ (fs : List NumberedFold). fs ++ record { number = c.self.inside.next; fold = c.args.fold } ∷ []) c.self.view_is
