@@ -1,0 +1,4 @@
+pub mod AsBox
+pub mod Pointers
+mod Saves
+mod Takes
