@@ -1,10 +1,10 @@
 -- What a map answers, from the marks of its spans.
-use Rattle.std.proofs.Common.{◌≡◌, ℕ, zero, suc, ◌+◌, ◌≤◌, ◌<◌, ◌||◌, Bool, true, false, cond, List, [], ◌∷◌, length, take, drop, Option, Some, None, refl, sym, ap, ◌∙◌, subst, arith}
+use Rattle.std.proofs.Common.{◌≡◌, ℕ, zero, suc, ◌≤◌, ◌<◌, ◌||◌, Bool, true, false, cond, List, [], ◌∷◌, length, take, drop, Some, None, refl, sym, ap, ◌∙◌, arith}
 use Rattle.tree_cursor.specs.declared.traits.Bias.{Bias}
 use Rattle.tree_cursor.specs.declared.traits.Bias.TheVariants.{Left, Right}
 use Rattle.op_model.specs.Edits.{is_boundary}
 use Rattle.op_model.specs.Shown.{text}
-use Rattle.fold_spans.specs.Marks.{Mark, marks, begins_inner, show, shown_len, shown_place, text_place}
+use Rattle.fold_spans.specs.Marks.{Mark, begins_inner, shown_len, shown_place, text_place}
 use Rattle.fold_spans.specs.Marks.Mark.{Plain, First, Inner}
 use Rattle.fold_spans.specs.Spans.{marks_of, shown_sum, AreSpans}
 use Rattle.fold_spans.specs.declared.span.Span.{Span}
@@ -12,7 +12,7 @@ use Rattle.fold_spans.proofs.BySpan.{spans_shown}
 use Rattle.fold_spans.proofs.BackAgain.{shown_places_come_back}
 use Rattle.fold_map.specs.Folds.{FoldState, ranges, fold_marks, shown, is_inside, to_shown, to_text}
 use Rattle.fold_map.specs.Laws.{PlacesComeBack}
-use Rattle.fold_map.proofs.Cuts.{AreCut, IsCut, boundary_within, cut_marks, places_match, length_show, none_past}
+use Rattle.fold_map.proofs.Cuts.{AreCut, boundary_within, cut_marks, places_match, length_show, none_past}
 use Rattle.fold_map.proofs.ShownParts.{length_marks}
 
 some_if : (t : Bool) (x : ℕ) → t ≡ true → cond t (Some x) None ≡ Some x

@@ -1,5 +1,5 @@
 -- Folds of a history and of later ones, and their ranges.
-use Rattle.std.proofs.Common.{◌≡◌, inl, inr, ℕ, ◌+◌, ◌-◌, ◌≤◌, ◌||◌, Bool, true, cond, List, [], ◌∷◌, ◌++◌, length, map, Some, None, Option, refl, sym, ap, ◌∙◌, subst, arith}
+use Rattle.std.proofs.Common.{◌≡◌, inl, inr, ℕ, ◌≤◌, ◌||◌, Bool, true, cond, List, [], ◌∷◌, ◌++◌, length, map, Some, None, refl, sym, ap, ◌∙◌, arith}
 use Rattle.std.specs.List.{All, AllByRecursion}
 use Rattle.std.proofs.lemmas.List.Elements.{All-head, All-tail, All-map, All-weaker}
 use Rattle.op_model.specs.Domains.{IsProper}
@@ -7,13 +7,11 @@ use Rattle.op_model.specs.Histories.{History, SameSet}
 use Rattle.op_model.specs.Lawful.{Lawful}
 use Rattle.op_model.specs.Edits.{is_boundary}
 use Rattle.op_model.specs.Shown.{text}
-use Rattle.op_model.specs.Anchors.{place, is_known, compare_anchors, known_place}
+use Rattle.op_model.specs.Anchors.{place, is_known, known_place}
 use Rattle.op_model.specs.declared.anchor.Anchor.{Anchor}
 use Rattle.op_model.proofs.MainLaws.{same_sets_answer_alike, same_sets_agree, anchors_keep_their_order, anchors_stand_in_order, parts_begin_histories, places_are_boundaries}
 use Rattle.fold_spans.specs.Marks.{Range, marks, shown_text, shown_place, text_place}
-use Rattle.fold_spans.specs.Laws.{In}
 use Rattle.fold_spans.specs.Sweep.{range_of, IsWithin as IsRangeWithin}
-use Rattle.fold_spans.specs.declared.sweep.FoldRange.{FoldRange}
 use Rattle.fold_map.specs.declared.fold.Fold.{Fold}
 use Rattle.fold_map.specs.declared.fold.NumberedFold.{NumberedFold}
 use Rattle.fold_map.specs.Folds.{FoldState, IsFold, range, ranges, is_inside}

@@ -1,11 +1,9 @@
 -- A map's spans in a later history: those that the edits since touch are made again, with those between them.
-use Rattle.std.proofs.Common.{◌≡◌, inl, inr, ℕ, zero, suc, ◌+◌, ◌-◌, ◌≤◌, ◌<◌, ◌^◌, List, [], ◌∷◌, ◌++◌, length, map, take, drop, get_or, Option, Some, None, refl, sym, ap, ◌∙◌, subst, arith}
+use Rattle.std.proofs.Common.{◌≡◌, ℕ, zero, suc, ◌+◌, ◌-◌, ◌≤◌, ◌<◌, ◌^◌, List, [], ◌∷◌, ◌++◌, length, map, take, drop, Some, None, refl, sym, ap, ◌∙◌, subst, arith}
 use Rattle.std.specs.Prelude.{nat_le, slice_get, slice_range}
 use Rattle.std.specs.List.{All}
-use Rattle.std.specs.List.Sorted.{IsPermutation}
 use Rattle.std.proofs.lemmas.Option.{same_Some}
-use Rattle.std.proofs.lemmas.List.Elements.{All-head, All-tail, All-weaker}
-use Rattle.std.proofs.lemmas.List.Sorted.{All-permutation}
+use Rattle.std.proofs.lemmas.List.Elements.{All-head, All-tail}
 use Rattle.sum_tree.specs.Spliced.{splice_list}
 use Rattle.op_model.specs.declared.anchor.TextEdit.{TextEdit}
 use Rattle.op_model.specs.Histories.{History, version}
@@ -13,7 +11,7 @@ use Rattle.op_model.specs.Shown.{text}
 use Rattle.op_model.specs.Since.{since}
 use Rattle.text_buffer.specs.Document.{IsBufferHistory}
 use Rattle.fold_spans.specs.Marks.{Range, marks}
-use Rattle.fold_spans.specs.Spans.{marks_of, text_sum, folds_of}
+use Rattle.fold_spans.specs.Spans.{text_sum, folds_of}
 use Rattle.fold_spans.specs.Found.{IsTouching}
 use Rattle.fold_spans.specs.Sweep.{range_of, HaveFolds, IsWithin as IsRangeWithin}
 use Rattle.fold_spans.specs.Parts.{Edit, LieBetween, last_end}
@@ -21,15 +19,14 @@ use Rattle.fold_spans.specs.declared.span.Span.{Span}
 use Rattle.fold_spans.specs.declared.sweep.FoldRange.{FoldRange}
 use Rattle.fold_spans.specs.declared.touching.Touching.{Touching}
 use Rattle.fold_map.specs.declared.fold.NumberedFold.{NumberedFold}
-use Rattle.fold_map.specs.Folds.{ranges}
 use Rattle.fold_map.specs.Calls.{IsWithin}
-use Rattle.fold_map.specs.Numbered.{AreNumbered, AreFolds, AreSpansOf, numbered_ranges, folds_of as plain_folds}
+use Rattle.fold_map.specs.Numbered.{AreNumbered, AreFolds, AreSpansOf, numbered_ranges}
 use Rattle.fold_map.specs.Windows.{named_ranges, IsMadeAgain, last_of, as_one}
 use Rattle.fold_map.proofs.Followed.{ranges_same}
 use Rattle.fold_map.proofs.Fates.{as_edit, IsEnd}
 use Rattle.fold_map.proofs.Runs.{Stand, inside_numbers, spliced}
 use Rattle.fold_map.proofs.Moved.{IsRenewed, equal_ranges, not_after, goes_along}
-use Rattle.fold_map.proofs.Synced.{IsOneEdit, one_edit, X, W, Z, stand, ins, end, total, high, short, inside_part, ins_within, stands_after}
+use Rattle.fold_map.proofs.Synced.{IsOneEdit, one_edit, stand, ins, total, high, short, inside_part, ins_within, stands_after}
 use Rattle.fold_map.proofs.Later.{renew, renews_all, all_own, named_renewed, IsOwn, lie, is_one, lie_as_one, all_renewed}
 
 module _ (h g : History) (b : IsBufferHistory h) (d : IsBufferHistory g) (w : IsWithin h g) (fs : List NumberedFold) (nn : ℕ) (k : AreNumbered nn fs) (a : AreFolds h fs) (ss : List Span) (sp : AreSpansOf h fs ss) where

@@ -1,33 +1,27 @@
 -- Ranges of folds in a later history, by the edits since an earlier one.
-use Rattle.std.proofs.Common.{◌≡◌, inl, inr, ℕ, zero, suc, ◌+◌, ◌-◌, ◌≤◌, ◌<◌, Bool, true, List, [], ◌∷◌, ◌++◌, length, map, take, get_or, Option, Some, None, refl, sym, ap, ◌∙◌, subst, arith, nat_cmp}
-use Rattle.std.specs.Prelude.{nat_le, option_map}
-use Rattle.std.specs.List.{All, AllByRecursion}
+use Rattle.std.proofs.Common.{◌≡◌, ℕ, ◌+◌, ◌-◌, ◌≤◌, true, List, [], ◌∷◌, ◌++◌, length, map, take, get_or, Option, Some, None, refl, sym, ap, ◌∙◌, subst, arith, nat_cmp}
+use Rattle.std.specs.Prelude.{nat_le}
+use Rattle.std.specs.List.{All}
 use Rattle.std.proofs.lemmas.List.Elements.{All-nil, All-cons, All-head, All-tail, All-map, All-weaker}
-use Rattle.lamport_clock.specs.Versions.{Entries}
 use Rattle.sum_tree.specs.Keyed.{Ascending, item_of_key}
 use Rattle.op_model.specs.declared.anchor.Anchor.{Anchor}
 use Rattle.op_model.specs.declared.anchor.TextEdit.{TextEdit}
-use Rattle.op_model.specs.declared.faults.SinceFault.{SinceFault}
-use Rattle.op_model.specs.declared.faults.SinceFault.TheVariants.{Unseen, OpenVersion}
-use Rattle.op_model.specs.Answers.{open_replica}
-use Rattle.op_model.specs.Choice.{first_of}
-use Rattle.op_model.specs.Lawful.{Lawful, unseen_replica}
+use Rattle.op_model.specs.Lawful.{Lawful}
 use Rattle.op_model.specs.Histories.{History, SameSet, version}
 use Rattle.op_model.specs.Anchors.{place, is_known, gap}
 use Rattle.op_model.specs.Shown.{text}
-use Rattle.op_model.specs.Since.{Fate, fates, since, since_fault, edits_of, runs}
+use Rattle.op_model.specs.Since.{Fate, fates, since, edits_of, runs}
 use Rattle.op_model.specs.Since.Fate.{Kept}
 use Rattle.op_model.specs.Places.{number_then, number_now}
-use Rattle.op_model.proofs.MainLaws.{same_sets_answer_alike, same_sets_refuse_alike, same_sets_agree, parts_begin_histories, fronts_are_seen, places_by_fates}
+use Rattle.op_model.proofs.MainLaws.{same_sets_answer_alike, same_sets_agree, parts_begin_histories, places_by_fates}
 use Rattle.text_buffer.specs.Document.{IsBufferHistory}
 use Rattle.fold_spans.specs.Marks.{Range}
 use Rattle.fold_spans.specs.Sweep.{range_of, number_of as range_number, IsWithin as IsRangeWithin}
 use Rattle.fold_spans.specs.Parts.{Stays, AllStay, AreKept, Edit, LieBetween, last_end}
 use Rattle.fold_spans.specs.declared.sweep.FoldRange.{FoldRange}
-use Rattle.fold_map.specs.declared.fold.Fold.{Fold}
 use Rattle.fold_map.specs.declared.fold.NumberedFold.{NumberedFold}
 use Rattle.fold_map.specs.Folds.{IsFold}
-use Rattle.fold_map.specs.Calls.{IsWithin, older_replica}
+use Rattle.fold_map.specs.Calls.{IsWithin}
 use Rattle.fold_map.specs.Numbered.{number_of, fold_of, AreFolds, numbered_range, numbered_ranges}
 use Rattle.fold_map.specs.Windows.{found_range, named_ranges}
 use Rattle.fold_map.proofs.Fates.{passed_alike, as_edit, AreOrdered, IsEnd, edits_lie_between}

@@ -1,7 +1,7 @@
 -- Folds that are made, and maps that grow, shrink and go on.
-use Rattle.std.proofs.Common.{◌≡◌, ℕ, ◌+◌, ◌≤◌, ◌<◌, ◌≢◌, ◌&&◌, Bool, true, false, not, cond, eqb, ltb, List, [], ◌∷◌, ◌++◌, length, Option, Some, None, refl, sym, ap, ◌∙◌, subst, arith}
+use Rattle.std.proofs.Common.{◌≡◌, ℕ, ◌≤◌, ◌<◌, ◌&&◌, Bool, true, false, not, cond, eqb, ltb, List, [], ◌∷◌, ◌++◌, length, Option, Some, None, refl, sym, ap, ◌∙◌, arith}
 use Rattle.std.specs.Prelude.{option_map}
-use Rattle.std.specs.List.{All, AllByRecursion}
+use Rattle.std.specs.List.{AllByRecursion}
 use Rattle.std.proofs.lemmas.Bool.{ltb-false, le-ltb, eqb-false}
 use Rattle.std.proofs.lemmas.List.{map_push}
 use Rattle.std.proofs.lemmas.Option.{same_Some}
@@ -13,8 +13,7 @@ use Rattle.op_model.specs.Histories.{History, version}
 use Rattle.op_model.specs.Lawful.{Lawful}
 use Rattle.op_model.specs.Edits.{is_boundary}
 use Rattle.op_model.specs.Shown.{text}
-use Rattle.op_model.specs.Anchors.{place, is_known, known_place, place_fault}
-use Rattle.op_model.specs.declared.anchor.Anchor.{Anchor}
+use Rattle.op_model.specs.Anchors.{place, is_known, place_fault}
 use Rattle.op_model.specs.declared.faults.PlaceFault.{PlaceFault}
 use Rattle.op_model.specs.declared.faults.PlaceFault.TheVariants.{PastEnd as PastText, InsideChar as InsideOne}
 use Rattle.op_model.proofs.MainLaws.{anchors_resolve, made_anchors_stand_in_order}

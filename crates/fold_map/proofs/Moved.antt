@@ -1,30 +1,20 @@
 -- Spans after one edit: those before it have what they had, and those after it have the same at places that moved.
-use Rattle.std.proofs.Common.{◌≡◌, inl, inr, ℕ, zero, suc, ◌+◌, ◌-◌, ◌≤◌, ◌<◌, List, [], ◌∷◌, ◌++◌, length, map, take, drop, refl, sym, ap, ◌∙◌, subst, arith, append-nil}
-use Rattle.std.specs.Prelude.{◌⊎◌, nat_le, slice_range}
+use Rattle.std.proofs.Common.{◌≡◌, inl, inr, ℕ, zero, suc, ◌+◌, ◌-◌, ◌≤◌, ◌<◌, List, [], ◌∷◌, ◌++◌, length, map, take, drop, refl, sym, ap, ◌∙◌, arith, append-nil}
+use Rattle.std.specs.Prelude.{nat_le}
 use Rattle.std.specs.List.{All}
-use Rattle.std.specs.List.Sorted.{IsPermutation}
 use Rattle.std.proofs.lemmas.Bool.{cases_lt}
 use Rattle.std.proofs.lemmas.Bool.Decides.{nat_tests}
-use Rattle.std.proofs.lemmas.List.{map-append, take_at, drop_at, drop_all}
-use Rattle.std.proofs.lemmas.List.Elements.{All-nil, All-cons, All-head, All-tail, All-map, All-weaker, All-same}
-use Rattle.std.proofs.lemmas.List.Sorted.{IsPermutation-map, IsPermutation-append, IsPermutation-trans, IsPermutation-refl}
-use Rattle.sum_tree.specs.Spliced.{splice_list}
+use Rattle.std.proofs.lemmas.List.{map-append, take_at, drop_at}
+use Rattle.std.proofs.lemmas.List.Elements.{All-nil, All-cons, All-head, All-tail, All-same}
 use Rattle.fold_spans.specs.Marks.{Range, Mark, marks}
-use Rattle.fold_spans.specs.Spans.{span_len, marks_of, text_sum}
-use Rattle.fold_spans.specs.Found.{start_of, IsTouching}
-use Rattle.fold_spans.specs.Sweep.{range_of, number_of, IsWithin, BelongsTo, HaveInOrder, HaveFolds}
-use Rattle.fold_spans.specs.Parts.{Stays, AreKept, Edit, Part, LieBetween, IsBefore, IsClear, same_part, new_place, last_end, parts_from, AreWindows, Window, old_len, new_len, renewed}
-use Rattle.fold_spans.specs.Parts.Part.{Same, Again}
+use Rattle.fold_spans.specs.Spans.{span_len}
+use Rattle.fold_spans.specs.Sweep.{range_of, number_of, IsWithin, BelongsTo, HaveInOrder}
+use Rattle.fold_spans.specs.Parts.{Stays, Part, same_part, old_len, new_len, renewed}
+use Rattle.fold_spans.specs.Parts.Part.{Again}
 use Rattle.fold_spans.specs.declared.span.Span.{Span}
 use Rattle.fold_spans.specs.declared.span.Span.TheVariants.{Open, Fold, Waiting}
 use Rattle.fold_spans.specs.declared.sweep.FoldRange.{FoldRange}
-use Rattle.fold_spans.specs.declared.touching.Touching.{Touching}
-use Rattle.fold_spans.proofs.BySpan.{length_marks_of, marks_of-append}
-use Rattle.fold_spans.proofs.Sums.{text_sum-append}
-use Rattle.fold_spans.proofs.Homes.{marks_in_any_order}
-use Rattle.fold_spans.proofs.Fitting.{parts_are_made_again}
-use Rattle.fold_spans.proofs.WindowsFit.{windows_fit}
-use Rattle.fold_map.proofs.Runs.{LiesIn, Stand, inside, before_it, after_it, all_of_them, first, second, whole, lie_before, lie_inside, lie_after, have_join, three_are, within, parts, run_end, spliced}
+use Rattle.fold_map.proofs.Runs.{LiesIn}
 
 -- ---- ranges that move
 

@@ -1,21 +1,20 @@
 -- Folds that are made and taken out, where the spans of one window are made again.
-use Rattle.std.proofs.Common.{◌≡◌, inl, inr, ℕ, zero, suc, ◌+◌, ◌-◌, ◌≤◌, ◌<◌, ◌^◌, Bool, false, not, nat_cmp, List, [], ◌∷◌, ◌++◌, length, map, take, drop, refl, sym, ap, ◌∙◌, subst, arith, append_assoc}
+use Rattle.std.proofs.Common.{◌≡◌, ℕ, ◌+◌, ◌-◌, ◌≤◌, ◌^◌, Bool, false, not, nat_cmp, List, [], ◌∷◌, ◌++◌, length, map, take, drop, refl, sym, ap, ◌∙◌, subst, arith, append_assoc}
 use Rattle.std.specs.Prelude.{slice_range}
 use Rattle.std.specs.List.{All, filter}
 use Rattle.std.specs.List.Sorted.{IsPermutation, IsSortedBy}
 use Rattle.std.specs.Ordering.{is_lt}
-use Rattle.std.proofs.lemmas.Bool.{cases_lt}
-use Rattle.std.proofs.lemmas.List.{map-append, take_all, take-append-drop}
-use Rattle.std.proofs.lemmas.List.Elements.{All-nil, All-cons, All-head, All-tail, All-weaker, All-push, All-filter, All-same, filter-append}
+use Rattle.std.proofs.lemmas.List.{map-append}
+use Rattle.std.proofs.lemmas.List.Elements.{All-nil, All-weaker, All-push, All-filter, All-same, filter-append}
 use Rattle.std.proofs.lemmas.List.Sorted.{IsPermutation-refl, IsPermutation-append_left, IsPermutation-append_right, IsPermutation-append_comm, IsPermutation-trans, All-permutation}
 use Rattle.sum_tree.specs.Keyed.{item_of_key}
 use Rattle.op_model.specs.Histories.{History}
 use Rattle.op_model.specs.Anchors.{place}
 use Rattle.op_model.specs.Shown.{text}
 use Rattle.text_buffer.specs.Document.{IsBufferHistory}
-use Rattle.fold_spans.specs.Marks.{Range, Mark, marks}
+use Rattle.fold_spans.specs.Marks.{Range, marks}
 use Rattle.fold_spans.specs.Spans.{marks_of, text_sum, folds_of, some_open}
-use Rattle.fold_spans.specs.Found.{start_of, IsTouching}
+use Rattle.fold_spans.specs.Found.{IsTouching}
 use Rattle.fold_spans.specs.Sweep.{range_of, HaveFolds, IsWithin as IsRangeWithin, number_of as range_number}
 use Rattle.fold_spans.specs.declared.span.Span.{Span}
 use Rattle.fold_spans.specs.declared.sweep.FoldRange.{FoldRange}
@@ -30,7 +29,7 @@ use Rattle.fold_map.proofs.ShownParts.{length_spans}
 use Rattle.fold_map.proofs.Moved.{left_part, right_part, equal_ranges}
 use Rattle.fold_map.proofs.Permuted.{filter_permutation}
 use Rattle.fold_map.proofs.Named.{all_named, named_are, taken_by_window, ends_before, begins_after, ranges_filter, filter_apart}
-use Rattle.fold_map.proofs.Runs.{Stand, LiesIn, inside, before_it, after_it, all_of_them, inside_numbers, lie_before, lie_inside, lie_after, whole, window_made, parts, run_end, spliced, starts_before, ends_past, run_short}
+use Rattle.fold_map.proofs.Runs.{Stand, LiesIn, inside, before_it, after_it, all_of_them, inside_numbers, lie_before, lie_inside, lie_after, window_made, parts, run_end, spliced, starts_before, ends_past, run_short}
 
 -- ---- parts of lists
 

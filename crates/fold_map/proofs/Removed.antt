@@ -1,21 +1,11 @@
 -- How many folds are taken out, and which are left.
-use Rattle.std.proofs.Common.{◌≡◌, inl, inr, ℕ, ◌+◌, ◌-◌, ◌<◌, ◌≤◌, Some, Bool, true, false, Ok, not, cond, ltb, eqb, List, [], ◌∷◌, ◌++◌, length, map, take, drop, get_or, refl, sym, ap, ◌∙◌, subst, arith, append_assoc, nat_cmp, length-append}
-use Rattle.std.specs.Prelude.{slice_get}
-use Rattle.std.specs.List.{All, filter}
-use Rattle.std.specs.declared.cmp.Ordering.{Ordering}
-use Rattle.std.specs.declared.cmp.Ordering.TheVariants.{Less, Equal, Greater}
-use Rattle.std.proofs.lemmas.Bool.{cases_Bool, le-ltb, eq-eqb}
-use Rattle.std.proofs.lemmas.Cmp.{nat_cmp_total}
-use Rattle.std.proofs.lemmas.List.{append-nil, get_or_at, take_at, drop_at, drop_more, take_all, drop_all, length_push, length-map}
+use Rattle.std.proofs.Common.{◌≡◌, ℕ, ◌+◌, ◌-◌, Bool, true, false, not, cond, List, [], ◌∷◌, length, map, refl, sym, ap, ◌∙◌, arith}
+use Rattle.std.specs.List.{filter}
+use Rattle.std.proofs.lemmas.List.{length-map}
 use Rattle.std.proofs.lemmas.List.Filters.{length-filter_both}
-use Rattle.std.proofs.lemmas.Option.{slice_get_within, get_or_from_slice_get}
-use Rattle.std.proofs.lemmas.List.Elements.{All-head, filter_more}
-use Rattle.sum_tree.specs.Keyed.{Ascending, remove_key, below, above, IsPlace}
-use Rattle.sum_tree.proofs.Keys.{AllPairs-cross, place_item}
 use Rattle.op_model.specs.Histories.{History}
-use Rattle.fold_map.specs.Folds.{FoldState}
 use Rattle.fold_map.specs.Calls.{shares, unfolded}
-use Rattle.fold_map.specs.Numbered.{number_of, fold_of, folds_of, state_of, numbered_range, fold_shares, without_shared}
+use Rattle.fold_map.specs.Numbered.{fold_of, folds_of, state_of, fold_shares}
 use Rattle.fold_map.specs.declared.fold.Fold.{Fold}
 use Rattle.fold_map.specs.declared.fold.NumberedFold.{NumberedFold}
 

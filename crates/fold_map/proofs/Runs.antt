@@ -1,18 +1,18 @@
 -- A window of spans that is made again: the spans around it stay, and have what they had.
-use Rattle.std.proofs.Common.{◌≡◌, ◌⊎◌, inl, inr, ℕ, zero, suc, ◌+◌, ◌-◌, ◌*◌, ◌^◌, ◌≤◌, ◌<◌, List, [], ◌∷◌, ◌++◌, length, map, take, drop, refl, sym, ap, ◌∙◌, subst, arith, append_assoc, length-append}
+use Rattle.std.proofs.Common.{◌≡◌, ◌⊎◌, inl, inr, ℕ, zero, suc, ◌+◌, ◌-◌, ◌^◌, ◌≤◌, ◌<◌, List, [], ◌∷◌, ◌++◌, length, map, take, drop, refl, sym, ap, ◌∙◌, subst, arith, append_assoc, length-append}
 use Rattle.std.specs.Prelude.{slice_range}
 use Rattle.std.specs.List.{All}
 use Rattle.std.specs.List.Sorted.{IsPermutation}
 use Rattle.std.proofs.lemmas.Bool.{cases_lt}
-use Rattle.std.proofs.lemmas.List.{append-nil, map-append, take_all, take-append-drop, drop-drop, length-take-le, length-drop}
+use Rattle.std.proofs.lemmas.List.{map-append, take_all, take-append-drop, drop-drop, length-take-le, length-drop}
 use Rattle.std.proofs.lemmas.List.Elements.{All-append, All-weaker, All-nil, All-head, All-tail, All-same}
-use Rattle.std.proofs.lemmas.List.Sorted.{IsPermutation-map, IsPermutation-append_left, IsPermutation-append_right, IsPermutation-trans, IsPermutation-append_comm}
+use Rattle.std.proofs.lemmas.List.Sorted.{IsPermutation-map, IsPermutation-append_left, IsPermutation-append_right, IsPermutation-trans}
 use Rattle.sum_tree.specs.Spliced.{splice_list}
 use Rattle.fold_spans.specs.Marks.{Range, Mark, marks}
-use Rattle.fold_spans.specs.Spans.{span_len, span_folds, marks_of, text_sum, shown_sum, folds_of, AreSpans}
+use Rattle.fold_spans.specs.Spans.{span_len, marks_of, text_sum, shown_sum, folds_of, AreSpans}
 use Rattle.fold_spans.specs.Found.{start_of, IsTouching}
 use Rattle.fold_spans.specs.Sweep.{range_of, number_of, BelongsTo, HaveInOrder, HaveFolds}
-use Rattle.fold_spans.specs.Laws.{In, IsApart, AreThose}
+use Rattle.fold_spans.specs.Laws.{In, IsApart}
 use Rattle.fold_spans.specs.declared.span.Span.{Span}
 use Rattle.fold_spans.specs.declared.span.Span.TheVariants.{Open, Fold, Waiting}
 use Rattle.fold_spans.specs.declared.sweep.FoldRange.{FoldRange}

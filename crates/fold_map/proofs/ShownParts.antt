@@ -5,7 +5,7 @@ use Rattle.std.proofs.lemmas.List.{append-nil, length-drop, take-append-drop, dr
 use Rattle.std.proofs.lemmas.Option.{slice_get_within, get_or_from_slice_get}
 use Rattle.op_model.specs.Edits.{is_boundary}
 use Rattle.fold_spans.specs.Marks.{Range, Mark, marks, ellipsis, show, shown_text}
-use Rattle.fold_spans.specs.Marks.Mark.{Plain, First, Inner}
+use Rattle.fold_spans.specs.Marks.Mark.{Plain, Inner}
 use Rattle.fold_spans.specs.Spans.{span_len, repeat_mark, ellipsis_marks, span_marks, marks_of, text_sum, AreSpans}
 use Rattle.fold_spans.specs.declared.span.Span.{Span}
 use Rattle.fold_spans.specs.declared.span.Span.TheVariants.{Open, Fold, Waiting}

@@ -1,5 +1,5 @@
 -- The spans after one edit, of which those that touch it are made again.
-use Rattle.std.proofs.Common.{◌≡◌, inl, inr, ℕ, zero, suc, ◌+◌, ◌-◌, ◌≤◌, ◌<◌, List, [], ◌∷◌, ◌++◌, length, map, take, drop, get_or, refl, sym, ap, ◌∙◌, subst, arith}
+use Rattle.std.proofs.Common.{◌≡◌, inl, inr, ℕ, zero, suc, ◌+◌, ◌-◌, ◌≤◌, List, [], ◌∷◌, ◌++◌, length, map, take, drop, get_or, refl, sym, ap, ◌∙◌, subst, arith}
 use Rattle.std.specs.Prelude.{slice_range}
 use Rattle.std.specs.List.{All}
 use Rattle.std.specs.List.Sorted.{IsPermutation}
@@ -11,8 +11,8 @@ use Rattle.fold_spans.specs.Marks.{Range, Mark, marks}
 use Rattle.fold_spans.specs.Spans.{marks_of, text_sum}
 use Rattle.fold_spans.specs.Found.{start_of, IsTouching}
 use Rattle.fold_spans.specs.Sweep.{range_of, IsWithin, HaveInOrder, HaveFolds}
-use Rattle.fold_spans.specs.Parts.{Edit, Part, LieBetween, Fit, same_part, parts_from, AreWindows, Window, old_len, new_len, renewed}
-use Rattle.fold_spans.specs.Parts.Part.{Same, Again}
+use Rattle.fold_spans.specs.Parts.{Edit, Part, LieBetween, same_part, AreWindows, Window, old_len, new_len, renewed}
+use Rattle.fold_spans.specs.Parts.Part.{Again}
 use Rattle.fold_spans.specs.declared.span.Span.{Span}
 use Rattle.fold_spans.specs.declared.sweep.FoldRange.{FoldRange}
 use Rattle.fold_spans.specs.declared.touching.Touching.{Touching}

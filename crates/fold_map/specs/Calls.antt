@@ -1,5 +1,5 @@
 -- What the calls of a fold map do, and why they are refused.
-use Rattle.std.specs.Prelude.{◌≡◌, ℕ, ◌==◌, ◌&&◌, not, nat_lt, max, min, Bool, List, [], ◌∷◌, ◌++◌, length, Option, Some, None}
+use Rattle.std.specs.Prelude.{◌≡◌, ℕ, ◌==◌, ◌&&◌, not, nat_lt, max, min, Bool, [], ◌∷◌, ◌++◌, length, Option, Some}
 use Rattle.std.specs.List.{filter}
 use Rattle.op_model.specs.declared.operation.Operation.{Operation}
 use Rattle.op_model.specs.Choice.{first_of, when}

@@ -1,8 +1,7 @@
 -- Laws of what fold maps answer, which src/laws.rt shows.
-use Rattle.std.specs.Prelude.{◌≡◌, ℕ, true, false, drop, Option, Some}
+use Rattle.std.specs.Prelude.{◌≡◌, ℕ, true, false, drop, Some}
 use Rattle.tree_cursor.specs.declared.traits.Bias.{Bias}
 use Rattle.op_model.specs.Edits.{is_boundary}
-use Rattle.op_model.specs.Histories.{SameSet}
 use Rattle.op_model.specs.Shown.{text}
 use Rattle.fold_spans.specs.Marks.{begins_inner}
 use Rattle.fold_map.specs.Folds.{FoldState, fold_marks, shown, to_shown, to_text}

@@ -1,6 +1,6 @@
 -- Folds with numbers, for private clauses.
-use Rattle.std.specs.Prelude.{◌≡◌, ℕ, ◌<◌, ◌≤◌, ◌^◌, List, length, map, not, max, min, nat_lt, Bool, if◌then◌else◌}
-use Rattle.std.specs.List.{All, filter}
+use Rattle.std.specs.Prelude.{◌≡◌, ℕ, ◌<◌, ◌≤◌, ◌^◌, List, length, map, max, min, nat_lt, Bool, if◌then◌else◌}
+use Rattle.std.specs.List.{All}
 use Rattle.std.specs.Ordering.{nat_cmp}
 use Rattle.sum_tree.specs.Keyed.{Ascending, remove_key}
 use Rattle.op_model.specs.Histories.{History}

@@ -1,7 +1,6 @@
-use Rattle.std.proofs.Common.{◌≡◌, List, Ok, Err, Some, None, refl, sym, ap, subst, ◌∙◌, arith}
+use Rattle.std.proofs.Common.{◌≡◌, Ok, Err, refl, sym, subst, ◌∙◌, arith}
 use Rattle.std.specs.Prelude.{IfOk, Result}
-use Rattle.fold_spans.specs.declared.span.Span.{Span}
-use Rattle.fold_map.specs.Numbered.{AreFolds, AreSpansOf}
+use Rattle.fold_map.specs.Numbered.{AreSpansOf}
 use Rattle.fold_map.proofs.Followed.{folds_stay}
 use Rattle.fold_map.proofs.Going.{none_moves, one_order, one_fits, one_within, one_made}
 use Rattle.fold_map.proofs.syncing.spans_after.Goals as goal

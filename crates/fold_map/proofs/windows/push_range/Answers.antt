@@ -1,4 +1,4 @@
-use Rattle.std.proofs.Common.{List, Option, [], ◌∷◌, ◌++◌, ap, sym, ◌∙◌, append-nil}
+use Rattle.std.proofs.Common.{List, Option, [], ◌∷◌, ◌++◌, ap, sym, ◌∙◌}
 use Rattle.fold_spans.specs.declared.sweep.FoldRange.{FoldRange}
 use Rattle.fold_map.specs.declared.fold.NumberedFold.{NumberedFold}
 use Rattle.fold_map.specs.Folds.{IsFold}

@@ -1,12 +1,8 @@
-use Rattle.std.proofs.Common.{◌≡◌, ◌≤◌, List, [], ◌∷◌, ◌++◌, length, ap, sym, subst, refl, ◌∙◌, arith}
-use Rattle.std.specs.List.{All}
+use Rattle.std.proofs.Common.{◌≡◌, List, [], ◌∷◌, ◌++◌, length, ap, sym, subst, refl, ◌∙◌, arith}
 use Rattle.op_model.specs.Histories.{History}
 use Rattle.op_model.specs.Shown.{text}
 use Rattle.fold_spans.specs.Spans.{text_sum}
-use Rattle.fold_spans.specs.Sweep.{IsWithin as IsRangeWithin}
-use Rattle.fold_spans.specs.declared.span.Span.{Span}
 use Rattle.fold_spans.specs.declared.sweep.FoldRange.{FoldRange}
-use Rattle.fold_spans.specs.declared.touching.Touching.{Touching}
 use Rattle.fold_map.specs.Folds.{FoldState, ranges}
 use Rattle.fold_map.specs.Calls.{IsFolded}
 use Rattle.fold_map.specs.Numbered.{state_of, folds_of, AreSpansOf}

@@ -1,11 +1,11 @@
-use Rattle.std.proofs.Common.{◌≡◌, ℕ, ◌-◌, Bool, List, length, ap, sym, subst, refl, ◌∙◌, not, arith}
+use Rattle.std.proofs.Common.{◌≡◌, ℕ, ◌-◌, List, length, ap, sym, subst, refl, ◌∙◌, not, arith}
 use Rattle.std.specs.List.{All, filter}
 use Rattle.std.proofs.lemmas.List.Elements.{All-filter, All-same}
 use Rattle.op_model.specs.Histories.{History}
 use Rattle.fold_spans.specs.declared.sweep.FoldRange.{FoldRange}
 use Rattle.fold_map.specs.Folds.{FoldState, IsFold}
 use Rattle.fold_map.specs.Calls.{shares, unfolded}
-use Rattle.fold_map.specs.Numbered.{fold_of, fold_shares, state_of, AreSpansOf}
+use Rattle.fold_map.specs.Numbered.{fold_of, fold_shares, AreSpansOf}
 use Rattle.fold_map.specs.declared.fold.NumberedFold.{NumberedFold}
 use Rattle.fold_map.specs.Windows.{without_each}
 use Rattle.fold_map.proofs.Making.{in_order, within}
