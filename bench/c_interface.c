@@ -33,7 +33,7 @@ static uint64_t type_all(unsigned long edits)
 {
     zedbuf_buffer buffer = {0};
     uint64_t length = 0;
-    expect(zedbuf_open(&buffer, 1, (const uint8_t *)"", 0, LIMIT, LIMIT));
+    expect(zedbuf_open(&buffer, 1, (const uint8_t *)"", 0, LIMIT, LIMIT, 0));
     for (unsigned long n = 0; n < edits; n++) {
         zedbuf_change change = {.start = length, .end = length, .text_len = 1};
         expect(zedbuf_edit(&buffer, &change, 1, (const uint8_t *)(n % 60 == 59 ? "\n" : "a"), 1));

@@ -13,10 +13,10 @@ import subprocess
 import sys
 
 sys.path.insert(0, os.path.join(os.path.dirname(os.path.abspath(__file__)), "..", "examples", "python"))
-from zedbuf import Buffer, Refused  # noqa: E402
+from zedbuf import AS_THEY_ARE, LF_ALONE, Buffer, Refused  # noqa: E402
 
-BASES = ["", "ab\ncd\n", "The cat sat.\nβ and 𝄞\n", "x" * 300]
-TEXTS = ["", "a", "dog ", "\n", "ß", "😀", "two\nlines", "y" * 130]
+BASES = ["", "ab\ncd\n", "The cat sat.\r\nβ and 𝄞\n", "x" * 300]
+TEXTS = ["", "a", "dog ", "\n", "ß", "😀", "two\nlines", "y" * 130, "\r\n", "old\rrow"]
 FAULTS = {1: "reversed", 2: "overlap", 3: "pastend", 4: "insidechar", 8: "nosuchedit", 9: "twice"}
 # how many numbers the word of a fault has, a stamp being one of them
 NUMBERS = {1: 1, 2: 1, 3: 2, 4: 1}
@@ -36,9 +36,10 @@ class Session:
     def __init__(self, draw):
         self.draw = draw
         ids = draw.sample(range(1, 1024), draw.randint(1, 4))
-        base = draw.choice(BASES)
-        self.lines = [["zedbuf", 1, base, ids]]
-        self.buffers = {replica: Buffer(replica, base) for replica in ids}
+        base, version = draw.choice(BASES), draw.choice([1, 2])
+        self.lines = [["zedbuf", version, base, ids]]
+        endings = LF_ALONE if version == 2 else AS_THEY_ARE
+        self.buffers = {replica: Buffer(replica, base, endings=endings) for replica in ids}
         self.made = []  # the stamp and the record of each operation line, None where it was refused
         self.report = []
 
@@ -79,9 +80,13 @@ class Session:
         if self.made[number - 1] is None:
             self.report.append(head + "nothing")
             return
-        answer = self.buffers[replica].take(self.made[number - 1][1])
+        stamp, record = self.made[number - 1]
+        buffer = self.buffers[replica]
+        waited = stamp in buffer.waiting()
+        applied, _ = buffer.take(record)
         # the report also says what a waiting operation waits for, which is left out of the comparison
-        self.report.append(head + (f"applied {answer.first}" if answer.first else "waits" if answer.second else "repeat"))
+        waits = stamp in buffer.waiting() and not waited
+        self.report.append(head + (f"applied {applied}" if applied else "waits" if waits else "repeat"))
 
     def grow(self):
         replica = self.draw.choice(list(self.buffers))
