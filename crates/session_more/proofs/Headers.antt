@@ -8,7 +8,10 @@ use Rattle.session_lines.specs.declared.fault.Word.{Word}
 use Rattle.session_lines.specs.declared.session.Session.{Session}
 use Rattle.session_lines.proofs.Headers.{IsFirst, first_short, header_fits}
 use Rattle.session_more.specs.Decoding.{headed, more_lines_read, more_session_of, with_header}
+use Rattle.session_more.specs.Lines.{more_taken_in}
+use Rattle.session_more.specs.State.{MoreState, first_state}
 use Rattle.session_more.specs.declared.session.MoreLine.{MoreLine}
+use Rattle.session_more.specs.declared.session.MoreLine.TheVariants.{Plain, Select, Share, Selected}
 use Rattle.session_more.specs.declared.session.MoreSession.{MoreSession}
 
 longer : (n m : ℕ) (s : Session) → n ≤ m → IsSession n s → IsSession m s
@@ -21,10 +24,10 @@ of_lines n p (Ok ls) s i is =
     subst (λ x. IsSession n (headed x)) e i
 
 of_header : (migrate : Bool) (n : ℕ) (line : List ℕ) (lines : List (List ℕ)) (r : Result (List ℕ × BeforeState) Word) (s : MoreSession) → header_read migrate line ≡ r → length line ≤ n
-    → then_from 1 r (λ p. with_header p (more_lines_read (record { plain = p.1 }) [] lines)) ≡ Ok s → IsSession n (headed s)
+    → then_from 1 r (λ p. with_header p (more_lines_read (first_state p.1) [] lines)) ≡ Ok s → IsSession n (headed s)
 of_header migrate n line lines (Err w) s is le e = absurd (cc e)
 of_header migrate n line lines (Ok p) s is le e =
-    of_lines n p (more_lines_read (record { plain = p.1 }) [] lines) s (longer (length line) n (without_lines p) le (header_fits migrate line p is)) e
+    of_lines n p (more_lines_read (first_state p.1) [] lines) s (longer (length line) n (without_lines p) le (header_fits migrate line p is)) e
 
 from_lines : (migrate : Bool) (n : ℕ) (lines : List (List ℕ)) (s : MoreSession) → IsFirst n lines → more_session_of migrate lines ≡ Ok s → IsSession n (headed s)
 from_lines migrate n [] s i e = absurd (cc e)
@@ -32,3 +35,11 @@ from_lines migrate n (l ∷ lines) s i e = of_header migrate n l lines (header_r
 
 pub is_session : (migrate : Bool) (input : List ℕ) (s : MoreSession) → more_session_of migrate (lines_of input) ≡ Ok s → IsSession (length input) (headed s)
 is_session migrate input s e = from_lines migrate (length input) (lines_of input) s (first_short input) e
+
+-- a line that is taken in leaves the header
+pub header_stays : (line : MoreLine) (s : MoreState)
+    → ((more_taken_in line s).plain.version ≡ s.plain.version) × ((more_taken_in line s).plain.replicas ≡ s.plain.replicas)
+header_stays (Plain l) s = (refl, refl)
+header_stays (Select r n ps) s = (refl, refl)
+header_stays (Share r n) s = (refl, refl)
+header_stays (Selected r a) s = (refl, refl)

@@ -1,33 +1,54 @@
 -- Which session a text is, or its first bad line and the first word that applies to it.
-use Rattle.std.specs.Prelude.{ℕ, ◌+◌, List, [], ◌∷◌, ◌++◌, length, map, nat_lt, Bool, Result, Ok, Err, if◌then◌else◌}
-use Rattle.session_lines.specs.Before.{BeforeState, header_read, line_read, taken_in}
+use Rattle.std.specs.Prelude.{◌==◌, ℕ, ◌+◌, List, [], ◌∷◌, ◌++◌, length, map, nat_lt, not, Bool, Option, None, Some, Result, Ok, Err, if◌then◌else◌}
+use Rattle.op_model.specs.Choice.{first_of, when}
+use Rattle.serde_json.specs.Data.{Data}
+use Rattle.session_lines.specs.Before.{BeforeState, header_read, line_read}
 use Rattle.session_lines.specs.Cut.{lines_of}
-use Rattle.session_lines.specs.Session.{lines_limit, then_from}
+use Rattle.session_lines.specs.Json.{value_of}
+use Rattle.session_lines.specs.Session.{lines_limit, then_from, unless}
 use Rattle.session_lines.specs.declared.fault.DecodeFault.{DecodeFault}
 use Rattle.session_lines.specs.declared.fault.DecodeFault.TheVariants.{Bad, Lines}
 use Rattle.session_lines.specs.declared.fault.Word.{Word}
 use Rattle.session_lines.specs.declared.fault.Word.TheVariants as word
 use Rattle.session_lines.specs.declared.session.Session.{Session}
 use Rattle.session_lines.specs.declared.session.SessionLine.{SessionLine}
-use Rattle.session_more.specs.State.{MoreState}
+use Rattle.session_more.specs.Forms.{further_of_value}
+use Rattle.session_more.specs.Lines.{is_known, is_named, more_taken_in}
+use Rattle.session_more.specs.State.{MoreState, first_state}
 use Rattle.session_more.specs.declared.session.MoreLine.{MoreLine}
 use Rattle.session_more.specs.declared.session.MoreLine.TheVariants.{Plain}
 use Rattle.session_more.specs.declared.session.MoreSession.{MoreSession}
 
 -- ---- a line
 
--- what the line after this one is checked against
-abbrev pub more_taken_in : MoreLine → MoreState → MoreState
-more_taken_in (Plain l) s = record s { plain = taken_in l s.plain }
+-- what is wrong with a line that has one of the further forms
+abbrev pub further_word : MoreState → MoreLine → Option Word
+further_word s line = first_of (
+    when (not (is_known s.plain.replicas line)) word.Replica
+    ∷ when (not (is_named s line)) word.Name
+    ∷ [])
 
--- a line of `session_lines`, where it is one
-abbrev pub plain_line : Result SessionLine Word → Result MoreLine Word
-plain_line (Ok l) = Ok (Plain l)
-plain_line (Err w) = Err w
+abbrev pub form_after : MoreState → Option MoreLine → Result MoreLine Word
+form_after s None = Err word.Shape
+form_after s (Some line) = unless line (further_word s line)
+
+abbrev pub value_after : MoreState → Option Data → Result MoreLine Word
+value_after s None = Err word.Json
+value_after s (Some d) = form_after s (further_of_value d)
+
+-- the line of one of the further forms that a text is, or the first word that applies to it: version 1 has none of them
+unfoldable pub further_read : MoreState → List ℕ → Result MoreLine Word
+further_read s line = if s.plain.version == 2 then value_after s (value_of line) else Err word.Shape
+
+-- a line of `session_lines`, where it is one, and else one of the further forms, where it has no form of `session_lines`
+abbrev pub or_further : MoreState → List ℕ → Result SessionLine Word → Result MoreLine Word
+or_further s line (Ok l) = Ok (Plain l)
+or_further s line (Err word.Shape) = further_read s line
+or_further s line (Err w) = Err w
 
 -- the line that a text is, or the first word that applies to it
 unfoldable pub more_line_read : MoreState → List ℕ → Result MoreLine Word
-more_line_read s line = plain_line (line_read s.plain line)
+more_line_read s line = or_further s line (line_read s.plain line)
 
 -- ---- all lines
 
@@ -44,7 +65,7 @@ with_header p (Ok ls) = Ok (record { version = p.1.version; base = p.0; replicas
 abbrev pub more_session_of : Bool → List (List ℕ) → Result MoreSession DecodeFault
 more_session_of migrate [] = Err (Bad 1 word.Header)
 more_session_of migrate (l ∷ ls) =
-    then_from 1 (header_read migrate l) (λ p. with_header p (more_lines_read (record { plain = p.1 }) [] ls))
+    then_from 1 (header_read migrate l) (λ p. with_header p (more_lines_read (first_state p.1) [] ls))
 
 -- the session of a text, which may be read to be migrated, or why it has none: lines are counted before any is read
 unfoldable pub more_session_of_text : Bool → List ℕ → Result MoreSession DecodeFault
@@ -58,10 +79,6 @@ more_session_of_text migrate input =
 -- the session with these lines
 abbrev pub plainly : Session → MoreSession
 plainly s = record { version = s.version; base = s.base; replicas = s.replicas; lines = map Plain s.lines }
-
-abbrev pub plain_session : Result Session DecodeFault → Result MoreSession DecodeFault
-plain_session (Ok s) = Ok (plainly s)
-plain_session (Err e) = Err e
 
 -- the header of the session, with no line after it
 abbrev pub headed : MoreSession → Session

@@ -1,5 +1,6 @@
 pub mod State
 pub mod Lines
+pub mod Forms
 pub mod Kept
 pub mod Decoding
 pub mod Reports

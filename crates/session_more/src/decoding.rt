@@ -5,11 +5,14 @@ ghost use Rattle.session_lines.specs.Session.{IsSession, lines_limit};
 ghost use Rattle.session_lines.specs.declared.fault.DecodeFault.{DecodeFault};
 ghost use Rattle.session_lines.specs.declared.fault.LineFault.{LineFault};
 ghost use Rattle.session_lines.specs.declared.fault.Word.{Word};
-ghost use Rattle.session_more.specs.Decoding.{headed, more_line_read, more_lines_read, more_session_of, more_session_of_text, more_taken_in};
+ghost use Rattle.session_more.specs.Decoding.{further_read, further_word, headed, more_line_read, more_lines_read, more_session_of, more_session_of_text};
+ghost use Rattle.session_more.specs.Lines.{IsFurther, more_taken_in};
 
 use crate::before::MoreBefore;
+use crate::forms::further_of_value;
 use crate::kept::KeptMore;
 use crate::line_list::MoreLines;
+use crate::line_value::value_of;
 use crate::session::{MoreLine, MoreSession};
 use session_lines::{DecodeFault, LineFault, Word, first_line, line_count, read_header, read_line};
 use std::alloc::Global;
@@ -17,7 +20,55 @@ use std::alloc::Global;
 /// The most lines of a session, `lines_limit` of contracts.
 const LINES: usize = 1_048_576;
 
-// The line that a text is, which is then taken into `before`.
+// What is wrong with a line of a further form.
+fn further_word(before: &MoreBefore, line: &MoreLine) -> Option<Word>
+    requires { IsFurther line.now }
+    ensures { result ≡ further_word before.now line.now }
+{
+    if !before.is_known(line) {
+        return Some(Word::Replica);
+    }
+    if !before.is_named(line) {
+        return Some(Word::Name);
+    }
+    None
+}
+
+// The line of a further form that a text is.
+#[tactic(auto, unfolding(crate::specs::Decoding::further_read))]
+fn further_of(alloc: Global, before: &MoreBefore, line: &[u8]) -> Result<MoreLine, LineFault>
+    ensures ok { IfOk result (λ l. further_read before.now line.now ≡ Ok l) }
+    ensures further { IfOk result IsFurther }
+    ensures bad { (w : Word) → result ≡ Err (LineFault.Bad w)
+        → further_read before.now line.now ≡ Err w }
+{
+    if before.plain.version() != 2 {
+        return Err(LineFault::Bad(Word::Shape));
+    }
+    let value = value_of(alloc, line)?;
+    let Some(line) = further_of_value(alloc, &value)? else {
+        return Err(LineFault::Bad(Word::Shape));
+    };
+    match further_word(before, &line) {
+        Some(word) => Err(LineFault::Bad(word)),
+        None => Ok(line),
+    }
+}
+
+// The line of a further form that a text is, which is then taken into `before`.
+fn read_further(alloc: Global, line: &[u8], before: &mut MoreBefore) -> Result<MoreLine, LineFault>
+    ensures ok { IfOk result (λ l. further_read before.old line.now ≡ Ok l) }
+    ensures taken { IfOk result (λ l. before.new ≡ more_taken_in l before.old) }
+    ensures bad { (w : Word) → result ≡ Err (LineFault.Bad w)
+        → further_read before.old line.now ≡ Err w }
+    ensures err { OnErr result (before.new ≡ before.old) }
+{
+    let line = further_of(alloc, before, line)?;
+    before.take_in(alloc, &line)?;
+    Ok(line)
+}
+
+// The line that a text is, which is then taken into `before`. Only a text without a form of `session_lines` is read again.
 #[tactic(auto, unfolding(crate::specs::Decoding::more_line_read))]
 fn read(alloc: Global, line: &[u8], before: &mut MoreBefore) -> Result<MoreLine, LineFault>
     ensures ok { IfOk result (λ l. more_line_read before.old line.now ≡ Ok l) }
@@ -25,11 +76,15 @@ fn read(alloc: Global, line: &[u8], before: &mut MoreBefore) -> Result<MoreLine,
     ensures bad { (w : Word) → result ≡ Err (LineFault.Bad w) → more_line_read before.old line.now ≡ Err w }
     ensures err { OnErr result (before.new ≡ before.old) }
 {
-    let line = read_line(alloc, line, &mut before.plain)?;
-    Ok(MoreLine::Plain(line))
+    match read_line(alloc, line, &mut before.plain) {
+        Ok(line) => Ok(MoreLine::Plain(line)),
+        Err(LineFault::Bad(Word::Shape)) => read_further(alloc, line, before),
+        Err(fault) => Err(fault),
+    }
 }
 
 // The lines after the header.
+#[tactic(auto, using(crate::proofs::Headers::header_stays))]
 fn rest_of(alloc: Global, before: &mut MoreBefore, text: &[u8]) -> Result<MoreLines, DecodeFault>
     ensures ok { IfOk result (λ ls. more_lines_read before.old [] (lines_of text.now) ≡ Ok ls) }
     ensures header { IfOk result (λ _. (before.new.plain.version ≡ before.old.plain.version)
@@ -67,9 +122,9 @@ fn session_of(alloc: Global, migrate: bool, input: &[u8]) -> Result<MoreSession,
     let (line, after) = first_line(input);
     match read_header(alloc, line, migrate) {
         Ok((base, plain)) => {
-            let mut before = MoreBefore { plain };
+            let mut before = MoreBefore::new(alloc, plain);
             let lines = rest_of(alloc, &mut before, after)?;
-            let MoreBefore { plain } = before;
+            let MoreBefore { plain, .. } = before;
             Ok(MoreSession {
                 version: plain.version(),
                 base,

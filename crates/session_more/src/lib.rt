@@ -4,15 +4,19 @@
 
 mod before;
 mod decoding;
+mod forms;
 mod kept;
 mod laws;
 mod line_list;
+mod line_value;
 mod report;
 mod session;
+mod text;
 
 pub use decoding::decode;
 pub use laws::old_sessions_stay;
 pub use line_list::{MoreLines, MoreQueue};
-pub use report::{MoreReport, write_line};
-pub use session::{MoreLine, MoreSession};
+pub use report::{MoreReport, SelectAnswer, SelectedAnswer, ShareAnswer};
+pub use session::{MoreLine, MoreSession, TextRanges};
 pub use session_lines::{DecodeFault, OutOfMemory, Word};
+pub use text::write_line;

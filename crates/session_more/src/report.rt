@@ -1,16 +1,81 @@
-//! The lines of a report.
-ghost use Rattle.std.specs.Prelude.{◌≡◌, ◌++◌, OnErr, OnOk};
-ghost use Rattle.session_more.specs.Reports.{more_line_text, more_session_counts};
+//! A line of a report, as a value.
+ghost use Rattle.std.specs.Prelude.{◌≡◌};
+ghost use Rattle.session_more.specs.Reports.{more_session_counts};
 
-use crate::session::MoreSession;
-use session_lines::{OutOfMemory, Report};
-use std::alloc::Global;
+use crate::session::{MoreSession, TextRanges};
+use lamport_clock::Lamport;
+use op_model::Text;
+use session_lines::Report;
+
+/// What comes of a line that selects ranges. Ranges are counted from 0.
+#[derive(Clone, Copy, Debug, PartialEq, Eq)]
+pub enum SelectAnswer {
+    /// `V.R`: the operation with this stamp is kept under the name.
+    Made(Lamport),
+    /// `reversed I`: range I starts past its end.
+    Reversed(u64),
+    /// `pastend I LEN`: range I ends past the text, which has LEN bytes.
+    PastEnd(u64, u64),
+    /// `insidechar I`: range I starts or ends inside a character.
+    InsideChar(u64),
+    /// `toomany N`: there are N ranges, more than a replica may select.
+    TooMany(u64),
+    /// `clockend`: the clock of the replica's selections stands at its end.
+    ClockEnd,
+}
+
+/// What a replica answers to selections that it is given.
+#[derive(Clone, Copy, Debug, PartialEq, Eq)]
+pub enum ShareAnswer {
+    /// `set`: they are kept for their author.
+    Set,
+    /// `repeat`: the equal ones are kept.
+    Repeat,
+    /// `old V.R`: later ones of the author are kept, with this stamp.
+    Old(Lamport),
+    /// `nothing`: no selections are kept under the name.
+    Nothing,
+    /// `badstamp`: no replica makes an operation with this stamp.
+    BadStamp,
+    /// `toomany N`: there are N ranges, more than a replica may select.
+    TooMany(u64),
+    /// `conflict V.R`: others with this stamp are kept.
+    Conflict(Lamport),
+}
+
+/// Where the selections of a replica are in a text.
+#[derive(Drop)]
+pub enum SelectedAnswer {
+    /// `s..e, ..`: there, in the order in which they were given; `empty`, where there are none.
+    Ranges(TextRanges),
+    /// `none`: nothing is kept for the replica.
+    Nothing,
+    /// `unknown I`: range I, counted from 0, is the first with an anchor that is not known in the text.
+    Unknown(u64),
+}
 
 /// A line of a report, with what it prints.
 #[derive(Drop)]
 pub enum MoreReport {
     /// A line of `session_lines`.
     Plain(Report),
+    /// `select NAME: ANSWER`: what comes of selecting ranges under the name.
+    Select {
+        name: Text,
+        answer: SelectAnswer,
+    },
+    /// `share NAME to R: ANSWER`: what replica R answers to the selections under the name.
+    Share {
+        name: Text,
+        replica: u16,
+        answer: ShareAnswer,
+    },
+    /// `selected A at R: ANSWER`: where the selections of replica A are in the text of replica R.
+    Selected {
+        author: u16,
+        replica: u16,
+        answer: SelectedAnswer,
+    },
 }
 
 impl MoreReport {
@@ -25,20 +90,5 @@ impl MoreReport {
             operations: session.operation_count(),
             queries: session.query_count(),
         })
-    }
-}
-
-/// Puts the text of the line at the end of `out`. Linear in the text.
-///
-/// # Errors
-///
-/// `OutOfMemory` if an allocation fails; `out` then has what it had.
-#[tactic(auto, unfolding(crate::specs::Reports::more_line_text))]
-pub fn write_line(alloc: Global, out: &mut Vec<u8>, line: &MoreReport) -> Result<(), OutOfMemory>
-    ensures ok { OnOk result (out.new.items ≡ out.old.items ++ more_line_text line.now) }
-    ensures err { OnErr result (out.new.items ≡ out.old.items) }
-{
-    match line {
-        MoreReport::Plain(line) => session_lines::write_line(alloc, out, line),
     }
 }

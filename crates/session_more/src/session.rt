@@ -6,12 +6,31 @@ ghost use Rattle.session_more.specs.Lines.{is_operation, is_query, operation_cou
 use crate::line_list::MoreLines;
 use op_model::{Endings, Text};
 use session_lines::{Ids, SessionLine};
+use std::marker::Model;
 
-/// A line after the header.
+/// A line after the header. A replica that acts in it is one of the header's. The forms that `session_lines` has not are of
+/// version 2 alone.
 #[derive(Drop)]
 pub enum MoreLine {
     /// A line of `session_lines`.
     Plain(SessionLine),
+    /// `["select",r,"name",[[s,e],..]]`: replica r selects ranges of its text, and the operation that it makes of them is kept under the
+    /// name for all replicas, apart from anchors and marks.
+    Select {
+        replica: u16,
+        name: Text,
+        ranges: TextRanges,
+    },
+    /// `["share",r,"name"]`: replica r takes the operation under the name.
+    Share {
+        replica: u16,
+        name: Text,
+    },
+    /// `["selected",r,a]`: where the selections of replica a are in the text of replica r. a need not be in the header.
+    Selected {
+        replica: u16,
+        author: u16,
+    },
 }
 
 impl MoreLine {
@@ -21,6 +40,7 @@ impl MoreLine {
     {
         match self {
             MoreLine::Plain(line) => line.is_operation(),
+            _ => false,
         }
     }
 
@@ -30,7 +50,38 @@ impl MoreLine {
     {
         match self {
             MoreLine::Plain(line) => line.is_query(),
+            _ => false,
         }
+    }
+}
+
+/// Ranges of a text, each by its start and its end in bytes, seen as their list.
+#[derive(Drop)]
+pub struct TextRanges {
+    inner: Vec<(u64, u64)>,
+}
+
+impl Model for TextRanges {
+    ghost use Rattle.std.specs.Prelude.{List, ℕ};
+
+    ghost Value = { List (ℕ × ℕ) };
+
+    ghost view = { λ r. r.inner.items };
+}
+
+impl TextRanges {
+    /// The list of the ranges of a vector. Does not allocate.
+    pub fn new(inner: Vec<(u64, u64)>) -> TextRanges
+        ensures { result ≡ inner.items }
+    {
+        TextRanges { inner }
+    }
+
+    /// The ranges in their order. O(1); does not allocate.
+    pub fn as_slice(&self) -> &[(u64, u64)]
+        ensures { result.now ≡ self.now }
+    {
+        &self.inner
     }
 }
 
