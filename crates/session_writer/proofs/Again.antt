@@ -1,18 +1,26 @@
 -- What a session reads is read again from its values, by version 2 too.
 use Rattle.std.proofs.Common.{◌≡◌, ℕ, ◌+◌, ◌==◌, Bool, true, false, cond, ◌&&◌, not, List, [], ◌∷◌, ◌++◌, length, Option, None, Some, Result, Ok, Err, true≢false, refl, sym, ap, ◌∙◌, subst}
-use Rattle.std.specs.Prelude.{⊤, codes, nat_eq, option_and_then}
-use Rattle.std.specs.Cmp.Lexicographic.{pointwise}
+use Rattle.std.specs.Prelude.{⊤, codes, option_and_then}
 use Rattle.std.proofs.lemmas.Slice.Eq.{bytes_eq-Decides}
 use Rattle.serde_json.specs.Data.{Data, array, boolean, null, number, object, string}
 use Rattle.op_model.specs.Choice.{first_of, when}
 use Rattle.session_lines.specs.Json.{is_text, members_of, value_of}
 use Rattle.session_lines.specs.Forms.{asking_form, edit_from, form_of, give_from, later_form, line_from, line_of_value, op_from, reopen_from, text_from, undo_from, uop_from}
-use Rattle.session_lines.specs.Session.{bars_return, brings_return, form_or_word, is_known, is_named, is_numbered, line_of, line_or_word, operation_count, rest_of, then_from, unless, word_of}
+use Rattle.session_lines.specs.Before as old
+use Rattle.session_lines.specs.Before.{has_name, line_read, returns_barred}
+use Rattle.session_lines.specs.Session as sessions
+use Rattle.session_lines.specs.Session.{brings_return, then_from, unless}
 use Rattle.session_lines.specs.declared.fault.DecodeFault.{DecodeFault}
 use Rattle.session_lines.specs.declared.fault.Word.{Word}
 use Rattle.session_lines.specs.declared.fault.Word.TheVariants as word
-use Rattle.session_lines.specs.declared.header.Header.{Header}
 use Rattle.session_lines.specs.declared.session.SessionLine.{SessionLine}
+use Rattle.session_more.specs.Decoding.{form_after, further_read, more_line_read, more_lines_read, or_further, value_after}
+use Rattle.session_more.specs.Forms.{further_of_value}
+use Rattle.session_more.specs.Lines.{is_known, is_named, more_taken_in}
+use Rattle.session_more.specs.State.{MoreState}
+use Rattle.session_more.specs.declared.session.MoreLine.{MoreLine}
+use Rattle.session_more.specs.declared.session.MoreLine.TheVariants.{Plain, Select, Share, Selected}
+use Rattle.session_more.proofs.Headers.{header_stays}
 
 -- ---- a form of any version is one of version 2
 
@@ -70,43 +78,97 @@ HaveValues (l ∷ ls) (t ∷ ts) = (value_of t ≡ value_of l) × HaveValues ls 
 
 -- ---- a line that a migration reads is read without one too
 
-unless_fewer : (x y : SessionLine) (a b c d : Bool)
-    → unless x (first_of (when a word.Replica ∷ when b word.Number ∷ when c word.Name ∷ when d word.Cr ∷ [])) ≡ Ok y
-    → unless x (first_of (when a word.Replica ∷ when b word.Number ∷ when c word.Name ∷ None ∷ [])) ≡ Ok y
-unless_fewer x y true b c d e = cc
-unless_fewer x y false true c d e = cc
-unless_fewer x y false false true d e = cc
-unless_fewer x y false false false true e = cc
-unless_fewer x y false false false false e = e
+-- the state with version v, where the session is not read to be migrated
+abbrev pub restated : ℕ → MoreState → MoreState
+restated v s = record { plain = record s.plain { version = v; migrate = false }; selects = s.selects }
 
-module _ (h k : Header) (ids : k.replicas ≡ h.replicas) (more : (d : Data) (l : SessionLine) → line_of_value h.version d ≡ Some l → line_of_value k.version d ≡ Some l) where
-  word_fewer : (before : List SessionLine) (x y : SessionLine) → unless x (word_of true h before x) ≡ Ok y → unless x (word_of false k before x) ≡ Ok y
-  word_fewer before x y e =
-      ap (λ (rs : List ℕ). unless x (first_of (when (not (is_known rs x)) word.Replica ∷ when (not (is_numbered (operation_count before) x)) word.Number ∷ when (not (is_named before x)) word.Name ∷ None ∷ []))) ids
-      ∙ unless_fewer x y (not (is_known h.replicas x)) (not (is_numbered (operation_count before) x)) (not (is_named before x)) (bars_return true h && brings_return x) e
+taken_again : (v : ℕ) (l : MoreLine) (s : MoreState) → more_taken_in l (restated v s) ≡ restated v (more_taken_in l s)
+taken_again v (Plain l) s = refl
+taken_again v (Select r n ps) s = refl
+taken_again v (Share r n) s = refl
+taken_again v (Selected r a) s = refl
 
-  form_fewer : (before : List SessionLine) (d : Data) (o : Option SessionLine) (y : SessionLine) → line_of_value h.version d ≡ o → form_or_word true h before o ≡ Ok y → form_or_word false k before (line_of_value k.version d) ≡ Ok y
-  form_fewer before d None y is e = cc
-  form_fewer before d (Some x) y is e = ap (form_or_word false k before) (more d x is) ∙ word_fewer before x y e
+is_named_again : (v : ℕ) (l : MoreLine) (s : MoreState) → is_named (restated v s) l ≡ is_named s l
+is_named_again v (Plain l) s = refl
+is_named_again v (Select r n ps) s = refl
+is_named_again v (Share r n) s = refl
+is_named_again v (Selected r a) s = refl
 
-  value_fewer : (before : List SessionLine) (o : Option Data) (y : SessionLine) → line_or_word true h before o ≡ Ok y → line_or_word false k before o ≡ Ok y
-  value_fewer before None y e = cc
-  value_fewer before (Some d) y e = form_fewer before d (line_of_value h.version d) y refl e
+module _ (v : ℕ) (s : MoreState) where
+  form_again : (o : Option MoreLine) (y : MoreLine) → form_after s o ≡ Ok y → form_after (restated v s) o ≡ Ok y
+  form_again None y e = cc
+  form_again (Some x) y e =
+      ap (λ (b : Bool). unless x (first_of (when (not (is_known s.plain.replicas x)) word.Replica ∷ when (not b) word.Name ∷ []))) (is_named_again v x s) ∙ e
 
-  -- what a line is, a line of the same value is
-  pub line_again : (before : List SessionLine) (line text : List ℕ) (y : SessionLine) → value_of text ≡ value_of line → line_of true h before line ≡ Ok y → line_of false k before text ≡ Ok y
-  unfolding line_of
-  line_again before line text y same e = ap (line_or_word false k before) same ∙ value_fewer before (value_of line) y e
+  value_again : (o : Option Data) (y : MoreLine) → value_after s o ≡ Ok y → value_after (restated v s) o ≡ Ok y
+  value_again None y e = cc
+  value_again (Some d) y e = form_again (further_of_value d) y e
 
-  then_again : {B : Type 0} (n : ℕ) (r q : Result SessionLine Word) (next after : SessionLine → Result B DecodeFault) (b : B) → ((x : SessionLine) → r ≡ Ok x → q ≡ Ok x) → ((x : SessionLine) → next x ≡ Ok b → after x ≡ Ok b)
+  second_by : (b : Bool) (r : Result MoreLine Word) (y : MoreLine) → cond b r (Err word.Shape) ≡ Ok y → (b ≡ true) × (r ≡ Ok y)
+  second_by true r y e = (refl, e)
+  second_by false r y e = cc
+
+  -- further forms are those of version 2
+  pub is_second : (line : List ℕ) (y : MoreLine) → further_read s line ≡ Ok y → ((s.plain.version == 2) ≡ true) × (value_after s (value_of line) ≡ Ok y)
+  unfolding further_read
+  is_second line y e = second_by (s.plain.version == 2) (value_after s (value_of line)) y e
+
+  further_again : (line text : List ℕ) (y : MoreLine) → value_of text ≡ value_of line → v ≡ s.plain.version → further_read s line ≡ Ok y → further_read (restated v s) text ≡ Ok y
+  unfolding further_read
+  further_again line text y same is e =
+      let was = is_second line y e in
+      ap (λ (b : Bool). cond b (value_after (restated v s) (value_of text)) (Err word.Shape)) (ap (λ (n : ℕ). n == 2) is ∙ was.0)
+      ∙ (ap (value_after (restated v s)) same ∙ value_again (value_of line) y was.1)
+
+  -- a line of `session_lines` against which there is nothing
+  plain_again : (line text : List ℕ) (x : SessionLine) (y : MoreLine) (a b c d : Bool)
+      → or_further s line (unless x (first_of (when a word.Replica ∷ when b word.Number ∷ when c word.Name ∷ when d word.Cr ∷ []))) ≡ Ok y
+      → or_further (restated v s) text (unless x (first_of (when a word.Replica ∷ when b word.Number ∷ when c word.Name ∷ None ∷ []))) ≡ Ok y
+  plain_again line text x y true b c d e = cc
+  plain_again line text x y false true c d e = cc
+  plain_again line text x y false false true d e = cc
+  plain_again line text x y false false false true e = cc
+  plain_again line text x y false false false false e = e
+
+-- the forms of version v are those of version u and perhaps more, and no more than those of version 2
+module _ (u v : ℕ) (more : (d : Data) (l : SessionLine) → line_of_value u d ≡ Some l → line_of_value v d ≡ Some l) (last : (u == 2) ≡ true → v ≡ u) where
+  module _ (s : MoreState) (at : s.plain.version ≡ u) (line text : List ℕ) (same : value_of text ≡ value_of line) (y : MoreLine) where
+    none_again : (d : Data) → line_of_value u d ≡ None → further_read s line ≡ Ok y → or_further (restated v s) text (old.form_after (restated v s).plain (line_of_value v d)) ≡ Ok y
+    none_again d none e =
+        let is : v ≡ u = last (ap (λ (n : ℕ). n == 2) (sym at) ∙ (is_second v s line y e).0) in
+        ap (λ o. or_further (restated v s) text (old.form_after (restated v s).plain o)) (ap (λ (n : ℕ). line_of_value n d) is ∙ none)
+        ∙ further_again v s line text y same (is ∙ sym at) e
+
+    read_again : (d : Data) (o : Option SessionLine) → line_of_value u d ≡ o → or_further s line (old.form_after s.plain o) ≡ Ok y → or_further (restated v s) text (old.form_after (restated v s).plain (line_of_value v d)) ≡ Ok y
+    read_again d None is e = none_again d is e
+    read_again d (Some x) is e =
+        ap (λ o. or_further (restated v s) text (old.form_after (restated v s).plain o)) (more d x is)
+        ∙ plain_again v s line text x y (not (sessions.is_known s.plain.replicas x)) (not (sessions.is_numbered s.plain.operations x))
+        (not (sessions.is_named_by (has_name s.plain.anchors) (has_name s.plain.marks) x)) (returns_barred s.plain && brings_return x) e
+
+    data_again : (o : Option Data) → or_further s line (old.value_after s.plain o) ≡ Ok y → or_further (restated v s) text (old.value_after (restated v s).plain o) ≡ Ok y
+    data_again None e = cc
+    data_again (Some d) e =
+        read_again d (line_of_value u d) refl (subst (λ (n : ℕ). or_further s line (old.form_after s.plain (line_of_value n d)) ≡ Ok y) at e)
+
+    -- what a line is, a line of the same value is
+    pub line_again : more_line_read s line ≡ Ok y → more_line_read (restated v s) text ≡ Ok y
+    unfolding more_line_read line_read
+    line_again e = ap (λ o. or_further (restated v s) text (old.value_after (restated v s).plain o)) same ∙ data_again (value_of line) e
+
+  then_again : {A B : Type 0} (n : ℕ) (r q : Result A Word) (next after : A → Result B DecodeFault) (b : B) → ((x : A) → r ≡ Ok x → q ≡ Ok x) → ((x : A) → next x ≡ Ok b → after x ≡ Ok b)
       → then_from n r next ≡ Ok b → then_from n q after ≡ Ok b
   then_again n (Err w) q next after b f g e = cc
-  then_again n (Ok x) q next after b f g e = ap (λ (p : Result SessionLine Word). then_from n p after) (f x refl) ∙ g x e
+  then_again n (Ok x) q next after b f g e = ap (λ p. then_from n p after) (f x refl) ∙ g x e
 
-  pub rest_again : (before : List SessionLine) (lines texts : List (List ℕ)) (xs : List SessionLine) → HaveValues lines texts → rest_of true h before lines ≡ Ok xs → rest_of false k before texts ≡ Ok xs
-  rest_again before [] [] xs v e = e
-  rest_again before [] (t ∷ ts) xs v e = absurd v
-  rest_again before (l ∷ ls) [] xs v e = absurd v
-  rest_again before (l ∷ ls) (t ∷ ts) xs v e =
-      then_again (2 + length before) (line_of true h before l) (line_of false k before t) (λ x. rest_of true h (before ++ x ∷ []) ls) (λ x. rest_of false k (before ++ x ∷ []) ts) xs
-      (λ x i. line_again before l t x v.0 i) (λ x i. rest_again (before ++ x ∷ []) ls ts xs v.1 i) e
+  pub lines_again : (s : MoreState) (before : List MoreLine) (lines texts : List (List ℕ)) (xs : List MoreLine) → s.plain.version ≡ u → HaveValues lines texts
+      → more_lines_read s before lines ≡ Ok xs → more_lines_read (restated v s) before texts ≡ Ok xs
+  lines_again s before [] [] xs at h e = e
+  lines_again s before [] (t ∷ ts) xs at h e = absurd h
+  lines_again s before (l ∷ ls) [] xs at h e = absurd h
+  lines_again s before (l ∷ ls) (t ∷ ts) xs at h e =
+      then_again (2 + length before) (more_line_read s l) (more_line_read (restated v s) t)
+      (λ x. more_lines_read (more_taken_in x s) (before ++ x ∷ []) ls) (λ x. more_lines_read (more_taken_in x (restated v s)) (before ++ x ∷ []) ts) xs
+      (λ x i. line_again s at l t h.0 x i)
+      (λ x i. ap (λ (z : MoreState). more_lines_read z (before ++ x ∷ []) ts) (taken_again v x s)
+      ∙ lines_again (more_taken_in x s) (before ++ x ∷ []) ls ts xs ((header_stays x s).0 ∙ at) h.1 i) e

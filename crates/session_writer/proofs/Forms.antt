@@ -10,6 +10,8 @@ use Rattle.session_lines.specs.Json.{is_text, list_of, members_of, whole_number}
 use Rattle.session_lines.specs.Parts.{all_of, bias_of_value, clock_value, count_from, count_of_value, counts_of_value, entry_from, entry_of_value, id_of_value, numbers_of_value, piece_from, piece_of_value, pieces_of_value, stamp_from, stamp_of_value, stamp_with, version_from, version_of_value, version_with}
 use Rattle.session_lines.specs.Forms.{anchor_from, asking_form, edit_from, find_from, form_of, give_from, later_form, line_from, line_of_value, mark_from, name_from, offset_from, op_from, point_from, reopen_from, since_from, text_from, undo_from, uop_from, where_from}
 use Rattle.session_lines.specs.declared.session.SessionLine.{SessionLine}
+use Rattle.session_more.specs.Forms.{further_form, further_from, further_of_value, range_from, range_of_value, ranges_of_value, select_from, selected_from, share_from}
+use Rattle.session_more.specs.declared.session.MoreLine.{MoreLine}
 use Rattle.session_writer.specs.Readable.{AreForms, IsForm}
 
 -- ---- what holds where there is something
@@ -171,6 +173,18 @@ counts_form d = array_form (all_of count_of_value) (all_forms count_of_value cou
 numbers_form : (d : Data) → OnSome (IsForm d) (numbers_of_value d)
 numbers_form d = array_form (all_of whole_number) (all_forms whole_number number_form) d
 
+range_members : (ds : List Data) → OnSome (AllForms ds) (range_from ds)
+range_members [] = tt
+range_members (s ∷ []) = tt
+range_members (s ∷ e ∷ []) = two (IsForm s) (IsForm e) (whole_number s) (whole_number e) _ (number_form s) (number_form e)
+range_members (s ∷ e ∷ d ∷ ds) = tt
+
+range_form : (d : Data) → OnSome (IsForm d) (range_of_value d)
+range_form d = array_form range_from range_members d
+
+ranges_form : (d : Data) → OnSome (IsForm d) (ranges_of_value d)
+ranges_form d = array_form (all_of range_of_value) (all_forms range_of_value range_form) d
+
 bias_form : (d : Data) → OnSome (IsForm d) (bias_of_value d)
 bias_form null = tt
 bias_form (boolean b) = tt
@@ -257,16 +271,29 @@ reopen_members [] = tt
 reopen_members (r ∷ []) = one (IsForm r) (id_of_value r) _ (id_form r)
 reopen_members (r ∷ d ∷ ds) = tt
 
+select_members : (ds : List Data) → OnSome (AllForms ds) (select_from ds)
+select_members [] = tt
+select_members (r ∷ []) = tt
+select_members (r ∷ t ∷ []) = tt
+select_members (r ∷ t ∷ ps ∷ []) = three (IsForm r) (IsForm t) (IsForm ps) (id_of_value r) (as_str t) (ranges_of_value ps) _ (id_form r) (text_form t) (ranges_form ps)
+select_members (r ∷ t ∷ ps ∷ d ∷ ds) = tt
+
+selected_members : (ds : List Data) → OnSome (AllForms ds) (selected_from ds)
+selected_members [] = tt
+selected_members (r ∷ []) = tt
+selected_members (r ∷ a ∷ []) = two (IsForm r) (IsForm a) (id_of_value r) (id_of_value a) _ (id_form r) (id_form a)
+selected_members (r ∷ a ∷ d ∷ ds) = tt
+
 -- ---- a line, by its word
 
-abbrev OnLine : Data → List Data → Option SessionLine → Type 0
+abbrev OnLine : {A : Type 0} → Data → List Data → Option A → Type 0
 OnLine w ds o = OnSome (IsForm w × AllForms ds) o
 
-picked : (ds : List Data) (b : Bool) (x y : Option SessionLine) → OnSome (AllForms ds) x → OnSome (⊤ × AllForms ds) y → OnSome (⊤ × AllForms ds) (cond b x y)
+picked : {A : Type 0} (ds : List Data) (b : Bool) (x y : Option A) → OnSome (AllForms ds) x → OnSome (⊤ × AllForms ds) y → OnSome (⊤ × AllForms ds) (cond b x y)
 picked ds true x y h k = changed (AllForms ds) (⊤ × AllForms ds) x (λ a. (tt, a)) h
 picked ds false x y h k = k
 
-worded : (c : List ℕ) (w : Data) (ds : List Data) (x y : Option SessionLine) → OnSome (AllForms ds) x → OnLine w ds y → OnLine w ds (cond (is_text c w) x y)
+worded : {A : Type 0} (c : List ℕ) (w : Data) (ds : List Data) (x y : Option A) → OnSome (AllForms ds) x → OnLine w ds y → OnLine w ds (cond (is_text c w) x y)
 worded c null ds x y h k = k
 worded c (boolean b) ds x y h k = k
 worded c (number n) ds x y h k = k
@@ -310,3 +337,22 @@ line_form v d = array_form (line_from v) (line_members v) d
 
 pub formed : (v : ℕ) (d : Data) (l : SessionLine) → line_of_value v d ≡ Some l → IsForm d
 formed v d l e = subst (OnSome (IsForm d)) e (line_form v d)
+
+-- ---- a line of a further form
+
+further_line : (w : Data) (ds : List Data) → OnLine w ds (further_form w ds)
+further_line w ds =
+    worded (codes "select") w ds (select_from ds) _ (select_members ds)
+    (worded (codes "share") w ds (share_from ds) _ (mapped (AllForms ds) (name_from ds) _ (name_members ds))
+    (worded (codes "selected") w ds (selected_from ds) None (selected_members ds) tt))
+
+further_members : (ds : List Data) → OnSome (AllForms ds) (further_from ds)
+further_members [] = tt
+further_members (w ∷ ds) = further_line w ds
+
+further_value : (d : Data) → OnSome (IsForm d) (further_of_value d)
+unfolding further_of_value
+further_value d = array_form further_from further_members d
+
+pub further_formed : (d : Data) (l : MoreLine) → further_of_value d ≡ Some l → IsForm d
+further_formed d l e = subst (OnSome (IsForm d)) e (further_value d)

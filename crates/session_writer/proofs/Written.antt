@@ -6,10 +6,10 @@ use Rattle.serde_json.specs.Data.{Data, Items, array, boolean, depth, float, ite
 use Rattle.serde_json.specs.Read.{max_depth, read}
 use Rattle.serde_json.specs.Written.{compact_text, has_float, items_have_float}
 use Rattle.session_lines.specs.Json.{value_of}
-use Rattle.session_lines.specs.Session.{session_of_text}
-use Rattle.session_lines.specs.declared.session.Session.{Session}
-use Rattle.session_lines.proofs.Faults.{session_of_nothing}
 use Rattle.session_lines.proofs.Lines.{value_none, value_read}
+use Rattle.session_more.specs.Decoding.{more_session_of_text}
+use Rattle.session_more.specs.declared.session.MoreSession.{MoreSession}
+use Rattle.session_more.proofs.Plain.{session_of_nothing}
 use Rattle.session_writer.specs.Migrated.{written_line}
 use Rattle.session_writer.specs.Readable.{AreForms, IsForm, IsReadable, IsWritten}
 use Rattle.session_writer.specs.Values.{line_text}
@@ -58,7 +58,7 @@ pub is_read : (line : List ℕ) → IsReadable line → (IsUtf8 line → read li
 is_read line r n = let same : Some r.0 ≡ None = sym r.1 ∙ value_none line n in cc same
 
 -- a session has a line
-pub some_bytes : (input : List ℕ) (s : Session) → session_of_text true input ≡ Ok s → 0 < length input
+pub some_bytes : (input : List ℕ) (s : MoreSession) → more_session_of_text true input ≡ Ok s → 0 < length input
 some_bytes [] s e = let n = (session_of_nothing true [] refl).0 in cc
 some_bytes (x ∷ xs) s e = omega arith
 

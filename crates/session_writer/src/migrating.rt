@@ -1,22 +1,24 @@
 //! Sessions that are written as sessions of version 2.
 ghost use Rattle.std.specs.Prelude.{◌≡◌, ◌<◌, ◌≤◌, ◌⊎◌, length, true, Err, IfErr, IfOk, Ok};
 ghost use Rattle.session_lines.specs.Cut.{lines_of};
-ghost use Rattle.session_lines.specs.Session.{lines_limit, session_of_text};
-ghost use Rattle.session_lines.specs.declared.session.Session.{Session};
+ghost use Rattle.session_lines.specs.Session.{lines_limit};
+ghost use Rattle.session_more.specs.Decoding.{more_session_of_text};
+ghost use Rattle.session_more.specs.declared.session.MoreSession.{MoreSession};
 ghost use Rattle.session_writer.specs.Migrated.{IsMigrated};
 
 use crate::OutOfMemory;
 use crate::header::header_text;
 use crate::lines::push_lines;
-use session_lines::{DecodeFault, Session, decode, first_line};
+use session_lines::{DecodeFault, first_line};
+use session_more::{MoreSession, decode};
 use std::alloc::Global;
 
 // The session as one of version 2, by its base and its ids.
-fn migrated(alloc: Global, input: &[u8], session: Session) -> Result<Vec<u8>, OutOfMemory>
-    requires { session_of_text true input.now ≡ Ok session }
+fn migrated(alloc: Global, input: &[u8], session: MoreSession) -> Result<Vec<u8>, OutOfMemory>
+    requires { more_session_of_text true input.now ≡ Ok session }
     ensures { IfOk result (λ v. IsMigrated session input.now v.items) }
 {
-    let Session { base, replicas, .. } = session;
+    let MoreSession { base, replicas, .. } = session;
     let mut out = header_text(alloc, input.len() + 1, base.as_str(), replicas.as_slice())?;
     out.push(b'\n')?;
     let (_, after) = first_line(input);
@@ -33,11 +35,11 @@ fn migrated(alloc: Global, input: &[u8], session: Session) -> Result<Vec<u8>, Ou
 /// Those of `decode` for a session that is to be migrated: `Lines`, and `Bad` with `Cr` after every other word. `OutOfMemory` only where
 /// there is a line, and not too many.
 pub fn migrate(alloc: Global, input: &[u8]) -> Result<Vec<u8>, DecodeFault>
-    ensures ok { IfOk result (λ v. (s : Session) × (session_of_text true input.now ≡ Ok s)
+    ensures ok { IfOk result (λ v. (s : MoreSession) × (more_session_of_text true input.now ≡ Ok s)
         × IsMigrated s input.now v.items) }
     ensures lines { lines_limit < length (lines_of input.now)
         → result ≡ Err (DecodeFault.Lines (length (lines_of input.now))) }
-    ensures fault { IfErr result (λ e. (session_of_text true input.now ≡ Err e)
+    ensures fault { IfErr result (λ e. (more_session_of_text true input.now ≡ Err e)
         ⊎ ((0 < length input.now) × (length (lines_of input.now) ≤ lines_limit)
         × (e ≡ DecodeFault.OutOfMemory))) }
 {
