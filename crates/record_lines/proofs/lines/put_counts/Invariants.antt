@@ -1,0 +1,11 @@
+use Rattle.std.proofs.Common.{◌≡◌, [], ◌∷◌, ◌++◌, take}
+use Rattle.std.specs.List.{flat_map}
+use Rattle.json.specs.Token as token
+use Rattle.record_lines.specs.Lines.{count_value, value_tokens}
+use Rattle.record_lines.proofs.lines.put_counts.Given as goal
+
+abbrev pub invariant-loop-c : goal.invariant-loop-c
+invariant-loop-c l = record {
+  before : l.writer.before ≡ l.fn.writer.before;
+  tokens : l.writer.tokens ≡ (l.fn.writer.tokens ++ token.begin_array ∷ []) ++ flat_map (λ x. value_tokens (count_value x)) (take l.c-index l.cs);
+}
