@@ -1,5 +1,5 @@
 -- Ranges of folds in a later history, by the edits since an earlier one.
-use Rattle.std.proofs.Common.{◌≡◌, ℕ, ◌+◌, ◌-◌, ◌≤◌, true, List, [], ◌∷◌, ◌++◌, length, map, take, get_or, Option, Some, None, refl, sym, ap, ◌∙◌, subst, arith, nat_cmp}
+use Rattle.std.proofs.Common.{◌≡◌, ℕ, ◌+◌, ◌-◌, true, List, [], ◌∷◌, ◌++◌, length, map, take, get_or, Option, Some, None, refl, sym, ap, ◌∙◌, subst, nat_cmp}
 use Rattle.std.specs.Prelude.{nat_le}
 use Rattle.std.specs.List.{All}
 use Rattle.std.proofs.lemmas.List.Elements.{All-nil, All-cons, All-head, All-tail, All-map, All-weaker}
@@ -15,20 +15,18 @@ use Rattle.op_model.specs.Since.Fate.{Kept}
 use Rattle.op_model.specs.Places.{number_then, number_now}
 use Rattle.op_model.proofs.MainLaws.{same_sets_answer_alike, same_sets_agree, parts_begin_histories, places_by_fates}
 use Rattle.text_buffer.specs.Document.{IsBufferHistory}
-use Rattle.fold_spans.specs.Marks.{Range}
 use Rattle.fold_spans.specs.Sweep.{range_of, number_of as range_number, IsWithin as IsRangeWithin}
-use Rattle.fold_spans.specs.Parts.{Stays, AllStay, AreKept, Edit, LieBetween, last_end}
+use Rattle.fold_spans.specs.Parts.{AllStay, LieBetween}
 use Rattle.fold_spans.specs.declared.sweep.FoldRange.{FoldRange}
 use Rattle.fold_map.specs.declared.fold.NumberedFold.{NumberedFold}
 use Rattle.fold_map.specs.Folds.{IsFold}
 use Rattle.fold_map.specs.Calls.{IsWithin}
 use Rattle.fold_map.specs.Numbered.{number_of, fold_of, AreFolds, numbered_range, numbered_ranges}
 use Rattle.fold_map.specs.Windows.{found_range, named_ranges}
-use Rattle.fold_map.proofs.Fates.{passed_alike, as_edit, AreOrdered, IsEnd, edits_lie_between}
+use Rattle.fold_map.proofs.Fates.{passed_alike, as_edit, IsEnd, edits_lie_between}
 use Rattle.fold_map.proofs.Named.{found_itself}
 use Rattle.fold_map.proofs.Followed.{folds_stay, ranges_within}
-use Rattle.fold_map.proofs.Moved.{IsRenewed}
-use Rattle.fold_map.proofs.Synced.{IsOneEdit, one_edit}
+use Rattle.fold_map.proofs.KeptRuns.{Bounds}
 
 -- ---- ranges by their numbers, in the later history
 
@@ -120,91 +118,31 @@ module _ (h g : History) (b : IsBufferHistory h) (d : IsBufferHistory g) (w : Is
       subst (λ (es : List TextEdit). LieBetween (map range_of (numbered_ranges h fs)) (map range_of (numbered_ranges g fs)) (length (text h)) 0 0 (map as_edit es)
       × IsEnd (length (text h)) (length (text g)) 0 0 (map as_edit es)) (sym since_is) l
 
--- ---- all edits as one
+-- ---- each range, in both texts
 
-module _ (rs qs : List Range) (n : ℕ) where
-  last_kept : (x y : ℕ) (es : List Edit) → LieBetween rs qs n x y es → AreKept rs qs (last_end (x, y) es).0 (last_end (x, y) es).1 (n - (last_end (x, y) es).0)
-  last_kept x y [] l = l
-  last_kept x y (e ∷ es) l = last_kept e.old.1 e.new.1 es l.4
+each_within : (h : History) (n : ℕ) (fs : List NumberedFold) → All (IsRangeWithin 0 n) (numbered_ranges h fs) → All (λ f. IsRangeWithin 0 n (numbered_range h f)) fs
+each_within h n [] p = All-nil (λ f. IsRangeWithin 0 n (numbered_range h f))
+each_within h n (f ∷ fs) p = All-cons (λ f. IsRangeWithin 0 n (numbered_range h f)) f fs (All-head (IsRangeWithin 0 n) (numbered_range h f) (numbered_ranges h fs) p)
+    (each_within h n fs (All-tail (IsRangeWithin 0 n) (numbered_range h f) (numbered_ranges h fs) p))
 
-  last_order : (x y : ℕ) (es : List Edit) → LieBetween rs qs n x y es → x ≤ (last_end (x, y) es).0
-  last_order x y [] l = omega arith
-  last_order x y (e ∷ es) l = let i = last_order e.old.1 e.new.1 es l.4 in let a = l.0 in let b = l.3 in omega (arith, i, a, b)
+within_text : (h : History) → IsBufferHistory h → (fs : List NumberedFold) → AreFolds h fs → All (λ f. IsRangeWithin 0 (length (text h)) (numbered_range h f)) fs
+within_text h b fs a = each_within h (length (text h)) fs (ranges_within h b.lawful b.proper fs a)
 
-  last_grows : (x y : ℕ) (es : List Edit) → LieBetween rs qs n x y es → AreOrdered es → y ≤ (last_end (x, y) es).1
-  last_grows x y [] l o = omega arith
-  last_grows x y (e ∷ es) l o = let i = last_grows e.old.1 e.new.1 es l.4 o.1 in let a = l.1 in let b = o.0 in omega (arith, i, a, b)
-
-  module _ (m : ℕ) (e : Edit) (es : List Edit) (l : LieBetween rs qs n 0 0 (e ∷ es)) (i : IsEnd n m 0 0 (e ∷ es)) where
-    abbrev start : ℕ
-    start = e.old.0
-
-    abbrev old_end : ℕ
-    old_end = (last_end (e.old.1, e.new.1) es).0
-
-    abbrev new_end : ℕ
-    new_end = (last_end (e.old.1, e.new.1) es).1
-
-    pub is_one : IsOneEdit n m start old_end new_end
-    is_one = record {
-      order = let p = last_order e.old.1 e.new.1 es l.4 in let q = l.3 in omega (arith, p, q);
-      grows = let p = last_grows e.old.1 e.new.1 es l.4 i.ordered.1 in let q = l.1 in let r = i.ordered.0 in omega (arith, p, q, r);
-      in_text = i.within;
-      length = i.length;
-    }
-
-    first_kept : AreKept rs qs 0 0 start
-    first_kept = subst (AreKept rs qs 0 0) (omega arith) l.2
-
-    pub lie_as_one : LieBetween rs qs n 0 0 (one_edit start old_end new_end ∷ [])
-    lie_as_one = (omega arith, omega arith, l.2, is_one.order, last_kept e.old.1 e.new.1 es l.4)
-
--- ---- each range is renewed
-
-stay_each : (h g : History) (fs : List NumberedFold) (i j : ℕ) → AllStay (map range_of (numbered_ranges h fs)) (map range_of (numbered_ranges g fs)) i j → All (λ f. Stays (range_of (numbered_range h f)) (range_of (numbered_range g f)) i j) fs
-stay_each h g [] i j s = All-nil (λ f. Stays (range_of (numbered_range h f)) (range_of (numbered_range g f)) i j)
-stay_each h g (f ∷ fs) i j s = All-cons (λ x. Stays (range_of (numbered_range h x)) (range_of (numbered_range g x)) i j) f fs s.0 (stay_each h g fs i j s.1)
-
-module _ (h g : History) (b : IsBufferHistory h) (d : IsBufferHistory g) (w : IsWithin h g) (fs : List NumberedFold) (k : Ascending nat_cmp number_of fs) (a : AreFolds h fs) (x y z : ℕ)
-    (l : LieBetween (map range_of (numbered_ranges h fs)) (map range_of (numbered_ranges g fs)) (length (text h)) 0 0 (one_edit x y z ∷ [])) where
+module _ (h g : History) (b : IsBufferHistory h) (d : IsBufferHistory g) (w : IsWithin h g) (fs : List NumberedFold) (k : Ascending nat_cmp number_of fs) (a : AreFolds h fs) where
   abbrev n : ℕ
   n = length (text h)
 
   abbrev m : ℕ
   m = length (text g)
 
-  within_old : All (λ f. IsRangeWithin 0 n (numbered_range h f)) fs
-  within_old = All-from_map h n fs (ranges_within h b.lawful b.proper fs a)
-    where
-      All-from_map : (h : History) (n : ℕ) (fs : List NumberedFold) → All (IsRangeWithin 0 n) (numbered_ranges h fs) → All (λ f. IsRangeWithin 0 n (numbered_range h f)) fs
-      All-from_map h n [] p = All-nil (λ f. IsRangeWithin 0 n (numbered_range h f))
-      All-from_map h n (f ∷ fs) p = All-cons (λ f. IsRangeWithin 0 n (numbered_range h f)) f fs (All-head (IsRangeWithin 0 n) (numbered_range h f) (numbered_ranges h fs) p) (All-from_map h n fs (All-tail (IsRangeWithin 0 n) (numbered_range h f) (numbered_ranges h fs) p))
+  each_bound : All (λ f. Bounds n m (numbered_range h f) (numbered_range g f)) fs
+  each_bound =
+      let o = within_text h b fs a in
+      let q = within_text g d fs (folds_stay h g b.lawful d.lawful w fs a) in
+      λ i e t. record { old = o i e t; new = q i e t; number = refl }
 
-  within_new : All (λ f. IsRangeWithin 0 m (numbered_range g f)) fs
-  within_new = All-from_map g m fs (ranges_within g d.lawful d.proper fs (folds_stay h g b.lawful d.lawful w fs a))
-    where
-      All-from_map : (h : History) (n : ℕ) (fs : List NumberedFold) → All (IsRangeWithin 0 n) (numbered_ranges h fs) → All (λ f. IsRangeWithin 0 n (numbered_range h f)) fs
-      All-from_map h n [] p = All-nil (λ f. IsRangeWithin 0 n (numbered_range h f))
-      All-from_map h n (f ∷ fs) p = All-cons (λ f. IsRangeWithin 0 n (numbered_range h f)) f fs (All-head (IsRangeWithin 0 n) (numbered_range h f) (numbered_ranges h fs) p) (All-from_map h n fs (All-tail (IsRangeWithin 0 n) (numbered_range h f) (numbered_ranges h fs) p))
-
-  renewed_each : All (λ f. IsRenewed n m x y z (numbered_range h f) (numbered_range g f)) fs
-  renewed_each =
-      let o = within_old in
-      let q = within_new in
-      λ i e t. record {
-        before = λ j u. stay_each h g fs j j (subst (λ (v : ℕ). AllStay (map range_of (numbered_ranges h fs)) (map range_of (numbered_ranges g fs)) v v) (zero_first j) (l.2 j (omega (arith, u)))) i e t;
-        after = λ j u. stay_each h g fs (y + j) (z + j) (l.4 j u) i e t;
-        old = o i e t;
-        new = q i e t;
-        number = refl;
-      }
-    where
-      zero_first : (j : ℕ) → 0 + j ≡ j
-      zero_first j = omega arith
-
-  pub all_renewed : All (λ r. IsRenewed n m x y z r (renew g fs r)) (numbered_ranges h fs)
-  all_renewed =
+  pub all_bound : All (λ r. Bounds n m r (renew g fs r)) (numbered_ranges h fs)
+  all_bound =
       let e = renews_one h g fs k in
-      let q = renewed_each in
-      All-map (λ r. IsRenewed n m x y z r (renew g fs r)) (numbered_range h) fs
-      (λ i v t. subst (IsRenewed n m x y z (numbered_range h (get_or fs i v))) (sym (e i v t)) (q i v t))
+      let q = each_bound in
+      All-map (λ r. Bounds n m r (renew g fs r)) (numbered_range h) fs (λ i v t. subst (Bounds n m (numbered_range h (get_or fs i v))) (sym (e i v t)) (q i v t))

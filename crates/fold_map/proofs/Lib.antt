@@ -12,6 +12,9 @@ pub mod Runs
 pub mod Remade
 pub mod Fates
 pub mod Moved
-pub mod Synced
+pub mod KeptRuns
+pub mod Many
+pub mod Groups
 pub mod Later
 pub mod Going
+pub mod Turns

@@ -1,14 +1,14 @@
 //! Going on to later snapshots.
-ghost use Rattle.std.specs.Prelude.{◌≡◌, ℕ, ◌⊎◌, Some, None, IfErr, IfOk, OnErr, OnOk};
+ghost use Rattle.std.specs.Prelude.{◌≡◌, ℕ, ◌+◌, ◌-◌, ◌^◌, ◌<◌, ◌≤◌, ◌⊎◌, Some, None, IfErr, IfOk, OnErr, OnOk};
 ghost use Rattle.op_model.specs.Histories.{version};
 ghost use Rattle.op_model.specs.Since.{since};
 ghost use Rattle.fold_map.specs.Calls.{older_replica, IsWithin};
 ghost use Rattle.fold_map.specs.Numbered.{AreFolds, AreSpansOf};
-ghost use Rattle.fold_map.specs.Windows.{as_one};
+ghost use Rattle.fold_map.specs.Windows.{run_after, AreInOrder, IsLastWindow};
 
 use crate::folds::Folds;
 use crate::map::FoldMap;
-use crate::windows::{made_again, ranges_in};
+use crate::windows::{make_again, ranges_in};
 use crate::{OutOfMemory, Snapshot, SyncFault};
 use fold_spans::{Spans, Touching};
 use op_model::TextEdit;
@@ -25,19 +25,39 @@ fn edits_since(old: &Snapshot, snapshot: &Snapshot) -> Result<Edits, OutOfMemory
     }
 }
 
-// All edits as one, with the bytes between them; None if there are none.
-fn as_one(edits: &[TextEdit]) -> Option<TextEdit>
-    ensures { result ≡ as_one edits.now }
+// The last edits that share spans: the index of the first of them, and the run of the spans from those that the first one touches
+// to those that the last one touches. None if there are no edits. O(log n) for each of them.
+fn last_window(spans: &Spans, edits: &[TextEdit]) -> Option<(usize, Touching)>
+    requires { AreInOrder edits.now }
+    ensures { IsLastWindow spans.now edits.now result }
 {
-    let first = edits.first()?;
     let last = edits.last()?;
-    Some(TextEdit {
-        old: (first.old.0, last.old.1),
-        new: (first.new.0, last.new.1),
-    })
+    let mut first = edits.len() - 1;
+    let mut run = spans.touching(last.old.0, last.old.1);
+    while first > 0 && run.start <= edits[first - 1].old.1 {
+        first -= 1;
+        run = spans.touching(edits[first].old.0, last.old.1);
+    }
+    Some((first, run))
 }
 
-// The spans of a later snapshot: those that its edits touch are made again, with those between them, and the others stay.
+// A run of spans from those that the edit `first` touches to those that the edit `last` touches, with its places in the new text.
+fn run_after(run: &Touching, first: &TextEdit, last: &TextEdit) -> Touching
+    requires start { run.now.start ≤ first.now.old.0 }
+    requires kept { first.now.old.0 - run.now.start ≤ first.now.new.0 }
+    requires end { last.now.old.1 ≤ run.now.end }
+    requires room { last.now.new.1 + (run.now.end - last.now.old.1) < 2 ^ 64 }
+    ensures { result ≡ run_after run.now first.now last.now }
+{
+    Touching {
+        from: run.from,
+        to: run.to,
+        start: first.new.0 - (first.old.0 - run.start),
+        end: last.new.1 + (run.end - last.old.1),
+    }
+}
+
+// The spans of a later snapshot: those that its edits touch are made again, window by window from the last one, and the others stay.
 fn spans_after(
     alloc: Global,
     old: &Snapshot,
@@ -54,18 +74,17 @@ fn spans_after(
     snapshot.known();
     folds.known();
     let edits = edits_since(old, snapshot)?;
-    let Some(edit) = as_one(edits.as_slice()) else {
-        return spans.share();
-    };
-    let run = spans.touching(edit.old.0, edit.old.1);
-    let ranges = ranges_in(alloc, snapshot, folds, spans, &run)?;
-    let window = Touching {
-        from: run.from,
-        to: run.to,
-        start: run.start,
-        end: edit.new.1 + (run.end - edit.old.1),
-    };
-    made_again(alloc, spans, &window, ranges)
+    let list = edits.as_slice();
+    let mut made = spans.share()?;
+    // The edits before this index are not done. The spans before those that the others touch have their indexes still.
+    let mut left = list.len();
+    while let Some((first, run)) = last_window(spans, &list[..left]) {
+        let ranges = ranges_in(alloc, snapshot, folds, spans, &run)?;
+        let window = run_after(&run, &list[first], &list[left - 1]);
+        make_again(alloc, &mut made, &window, ranges)?;
+        left = first;
+    }
+    Ok(made)
 }
 
 impl FoldMap {

@@ -76,12 +76,38 @@ pub(crate) fn retain_apart(ranges: &mut Vec<FoldRange>, s: u64, e: u64)
     ranges.retain(|range| !shares(range, s, e));
 }
 
-/// The spans with others in the place of those of a window: the spans of its bytes in the text from now on, with ranges that lie in
-/// them. O(log n), and what is in the window.
+/// Puts spans in the place of those of a window: the spans of its bytes in the text from now on, with ranges that lie in them.
+/// O(log n), and what is in the window; nodes that no other spans share are changed in place.
 ///
 /// # Errors
 ///
 /// Fails if an allocation fails, or if there are more than 2^40 spans.
+pub(crate) fn make_again(
+    alloc: Global,
+    spans: &mut Spans,
+    window: &Touching,
+    ranges: Vec<FoldRange>,
+) -> Result<(), OutOfMemory>
+    requires order { window.now.from ≤ window.now.to }
+    requires within { window.now.to ≤ length spans.old }
+    requires ranges { All (IsWithin window.now.start window.now.end) ranges.items }
+    requires room { text_sum spans.old + (window.now.end - window.now.start) ≤ 2 ^ 42 }
+    ensures { OnOk result (IsMadeAgain window.now ranges.items spans.old spans.new) }
+{
+    let list = spans_of(alloc, ranges, window.start, window.end)?;
+    spans.known();
+    let kept = spans.len() - (window.to - window.from);
+    if list.len() as u64 > MOST - kept {
+        return Err(OutOfMemory);
+    }
+    spans.replace(alloc, window.from, window.to, list)
+}
+
+/// The spans after [`make_again`]; they share nodes with those that are given.
+///
+/// # Errors
+///
+/// Those of [`make_again`].
 pub(crate) fn made_again(
     alloc: Global,
     spans: &Spans,
@@ -94,13 +120,7 @@ pub(crate) fn made_again(
     requires room { text_sum spans.now + (window.now.end - window.now.start) ≤ 2 ^ 42 }
     ensures { IfOk result (λ made. IsMadeAgain window.now ranges.items spans.now made) }
 {
-    let list = spans_of(alloc, ranges, window.start, window.end)?;
-    spans.known();
-    let kept = spans.len() - (window.to - window.from);
-    if list.len() as u64 > MOST - kept {
-        return Err(OutOfMemory);
-    }
     let mut made = spans.share()?;
-    made.replace(alloc, window.from, window.to, list)?;
+    make_again(alloc, &mut made, window, ranges)?;
     Ok(made)
 }
