@@ -7,7 +7,8 @@
  *    and it is not copied;
  *  - a pointer is not null, also where its length is 0; it has as many bytes or members as its length or room says, and
  *    no other running call has them;
- *  - one call at a time on one handle, and all calls on it from one thread;
+ *  - one call at a time on one handle, from whatever thread; each call has its writes seen by the next one on it, as a
+ *    mutex or a join of threads sees to;
  *  - malloc, realloc and free, which these calls use, are of one allocator.
  *
  * Offsets and lengths are in bytes of UTF-8. No call gives memory that is to be freed: the caller hands in room, and is
@@ -90,6 +91,21 @@ enum zedbuf_code {
     ZEDBUF_OPEN = 107,
     /* The operation has no record: a number of it is first, more than 65,536. */
     ZEDBUF_TOO_LONG = 108,
+    /* The text has no such place: it is past the end of the text or of its row, or inside a
+     * character. */
+    ZEDBUF_NO_PLACE = 109,
+};
+
+/* A kind of position, by which a place is named. */
+enum zedbuf_kind {
+    /* The bytes before the place. */
+    ZEDBUF_KIND_OFFSET = 0,
+    /* The UTF-16 units before the place. */
+    ZEDBUF_KIND_UTF16 = 1,
+    /* A row, with a column in bytes. */
+    ZEDBUF_KIND_POINT = 2,
+    /* A row, with a column in UTF-16 units. */
+    ZEDBUF_KIND_POINT_UTF16 = 3,
 };
 
 /* A place in a text that keeps to a byte while the text around it changes. It is plain data,
@@ -150,12 +166,39 @@ typedef struct zedbuf_stamp {
     uint16_t replica;
 } zedbuf_stamp;
 
+/* A range of an old text, and the range of the new text that stands in its place, in bytes. The
+ * ends are not included. */
+typedef struct zedbuf_text_change {
+    /* The start of the range of the old text. */
+    uint64_t old_start;
+    /* Its end. */
+    uint64_t old_end;
+    /* The start of the range of the new text. */
+    uint64_t new_start;
+    /* Its end. */
+    uint64_t new_end;
+} zedbuf_text_change;
+
 /* A replica on the heap, or nothing, as C holds it: a struct of one pointer, which is null where
  * the handle is closed. What is inside a handle that is dropped while it is open stays on the
  * heap. */
 typedef struct zedbuf_buffer {
     void *at;
 } zedbuf_buffer;
+
+/* A place in a text, in all kinds of position. */
+typedef struct zedbuf_position {
+    /* The bytes before the place. */
+    uint64_t offset;
+    /* The UTF-16 units before the place. */
+    uint64_t utf16;
+    /* The row, from 0: the LFs before the place. */
+    uint64_t row;
+    /* The bytes of the row before the place. */
+    uint64_t column;
+    /* The UTF-16 units of the row before the place. */
+    uint64_t column_utf16;
+} zedbuf_position;
 
 /* A snapshot on the heap, or nothing, as C holds it: a struct of one pointer, which is null
  * where the handle is closed. What is inside a handle that is dropped while it is open stays on
@@ -164,29 +207,43 @@ typedef struct zedbuf_snapshot {
     void *at;
 } zedbuf_snapshot;
 
+/* An operation that waited and was refused at its turn. */
+typedef struct zedbuf_refusal {
+    /* The stamp of the operation. */
+    zedbuf_stamp stamp;
+    /* Why it was refused, against what was applied at its turn. */
+    zedbuf_answer why;
+} zedbuf_refusal;
+
 /* Opens the buffer of a replica, 1 to 1023, over a base text, in a handle that is closed. The
  * limits are at most 2^40 bytes of new texts, the base's among them, and 2^40 - 1 entries: one
  * for each operation and each piece or count. All replicas of a document are opened over the
- * same base. Linear in the base. */
+ * same base, and with the same endings: with 0 texts enter as they are, with 1 each CR LF and
+ * each other CR, of the base and of the new texts of edits, enters as one LF. Linear in the
+ * base. */
 zedbuf_answer zedbuf_open(
         zedbuf_buffer *buffer,
         uint16_t replica,
         const uint8_t *base,
         size_t base_len,
         uint64_t limit_bytes,
-        uint64_t limit_entries);
+        uint64_t limit_entries,
+        uint32_t endings);
 
 /* Opens a saved history in a handle that is closed: the records of all its operations, as
- * zedbuf_records_since writes them for the empty version. The replica and the limits are as for
- * zedbuf_open. A replica that goes on under its own number opens the newest history that it
- * saved, with all that it ever sent. Each operation costs what it costs to take it. */
+ * zedbuf_records_since writes them for the empty version. The replica, the limits and the
+ * endings are as for zedbuf_open. A replica that goes on under its own number opens the newest
+ * history that it saved, with all that it ever sent. Where the last record is cut off,
+ * ZEDBUF_NO_RECORD has the offset at which it begins, and the records before it may be opened.
+ * Each operation costs what it costs to take it. */
 zedbuf_answer zedbuf_reopen(
         zedbuf_buffer *buffer,
         uint16_t replica,
         const uint8_t *records,
         size_t records_len,
         uint64_t limit_bytes,
-        uint64_t limit_entries);
+        uint64_t limit_entries,
+        uint32_t endings);
 
 /* Closes a buffer, and frees all that it holds; snapshots of it stay. A handle that is closed
  * stays so. */
@@ -225,6 +282,19 @@ zedbuf_answer zedbuf_take(zedbuf_buffer *buffer, const uint8_t *records, size_t 
  * applied, and of those that wait. */
 zedbuf_answer zedbuf_settle(zedbuf_buffer *buffer);
 
+/* Forgets an operation that waits: a caller that bounds how many it keeps goes through
+ * zedbuf_waiting and forgets those that are too many. It may be taken again. The answer has the
+ * number of operations that were forgotten, 0 or 1. Logarithmic in what waits. */
+zedbuf_answer zedbuf_forget(zedbuf_buffer *buffer, const zedbuf_stamp *stamp);
+
+/* Writes the stamps of the operations that wait for others, the least first. The answer has
+ * their number. Linear in them. */
+zedbuf_answer zedbuf_waiting(zedbuf_buffer *buffer, zedbuf_stamp *into, size_t into_room);
+
+/* Writes which operations waited and were refused at their turn, and why, in the order of their
+ * turns. The answer has their number. Linear in them. */
+zedbuf_answer zedbuf_refused(zedbuf_buffer *buffer, zedbuf_refusal *into, size_t into_room);
+
 /* Writes the buffer's version: of each replica the greatest stamp value that is applied. The
  * answer has the number of its entries. Linear in them. */
 zedbuf_answer zedbuf_version(zedbuf_buffer *buffer, zedbuf_seen *into, size_t into_room);
@@ -243,6 +313,10 @@ zedbuf_answer zedbuf_records_since(
  * constant time. */
 zedbuf_answer zedbuf_snapshot_of(zedbuf_buffer *buffer, zedbuf_snapshot *into);
 
+/* Makes another snapshot of the same, in a handle that is closed. Nothing is copied: constant
+ * time. */
+zedbuf_answer zedbuf_share(zedbuf_snapshot *snapshot, zedbuf_snapshot *into);
+
 /* Closes a snapshot, and frees what nothing else shares with it. A handle that is closed stays
  * so. */
 void zedbuf_release(zedbuf_snapshot *snapshot);
@@ -257,6 +331,36 @@ zedbuf_answer zedbuf_text(
         uint64_t start,
         uint64_t end,
         uint8_t *into,
+        size_t into_room);
+
+/* Writes a place of the text in all kinds of position. The kind ZEDBUF_KIND_OFFSET names it by
+ * its offset in bytes, ZEDBUF_KIND_UTF16 by its offset in UTF-16 units; the column is then not
+ * looked at. ZEDBUF_KIND_POINT names it by its row and a column in bytes,
+ * ZEDBUF_KIND_POINT_UTF16 by its row and a column in UTF-16 units. A few descents. */
+zedbuf_answer zedbuf_position_at(
+        zedbuf_snapshot *snapshot,
+        uint32_t kind,
+        uint64_t number,
+        uint64_t column,
+        zedbuf_position *into);
+
+/* Writes the text that a version saw. The answer has its length. The cost grows with what
+ * changed since, and with the text. */
+zedbuf_answer zedbuf_text_at(
+        zedbuf_snapshot *snapshot,
+        const zedbuf_seen *version,
+        size_t version_len,
+        uint8_t *into,
+        size_t into_room);
+
+/* Writes what changed since a version: the ranges of the text that it saw, and the ranges of
+ * this text that stand in their place, in bytes; they ascend and do not touch. The answer has
+ * their number. The cost grows with what changed since. */
+zedbuf_answer zedbuf_edits_since(
+        zedbuf_snapshot *snapshot,
+        const zedbuf_seen *version,
+        size_t version_len,
+        zedbuf_text_change *into,
         size_t into_room);
 
 /* Writes where a text stands, in bytes, each place once. The answer has the number of places.

@@ -2,8 +2,8 @@
 # Builds the C interface, and runs its examples in C and in Python, which have to print the same.
 #
 #     tools/c.sh          the header, the archive, a shared object, both examples
-#     tools/c.sh --hard   and the calls of an edit where each allocation fails in turn, both programs under valgrind, the
-#                         example under the address sanitizer, and 100,000 random calls from Python
+#     tools/c.sh --hard   and each call while each of its allocations fails in turn, both programs under valgrind and with
+#                         the address sanitizer, and 100,000 random calls from Python
 #
 # Wants gcc and python3, and for --hard valgrind. What is built lies in build/c.
 set -euo pipefail
@@ -34,6 +34,8 @@ if [ "${1-}" = --hard ]; then
     valgrind --quiet --leak-check=full --error-exitcode=1 "$build/refused" >/dev/null
     gcc "${flags[@]}" -fsanitize=address "$top/examples/c/merge.c" "$archive" "$heap" -o "$build/merge.asan"
     "$build/merge.asan" | diff "$top/examples/c/merge.out" -
+    gcc "${flags[@]}" -fsanitize=address "$top/examples/c/refused.c" "$archive" "$heap" -Wl,--wrap=malloc,--wrap=realloc -o "$build/refused.asan"
+    "$build/refused.asan" >/dev/null
     ZEDBUF=$build/libzedbuf.so python3 "$top/tools/c_random.py" 100000
     echo "c.sh: no allocation that fails leaves a text changed, and valgrind and the sanitizer find nothing"
 fi

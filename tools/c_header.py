@@ -28,7 +28,8 @@ HEAD = """\
  *    and it is not copied;
  *  - a pointer is not null, also where its length is 0; it has as many bytes or members as its length or room says, and
  *    no other running call has them;
- *  - one call at a time on one handle, and all calls on it from one thread;
+ *  - one call at a time on one handle, from whatever thread; each call has its writes seen by the next one on it, as a
+ *    mutex or a join of threads sees to;
  *  - malloc, realloc and free, which these calls use, are of one allocator.
  *
  * Offsets and lengths are in bytes of UTF-8. No call gives memory that is to be freed: the caller hands in room, and is
@@ -136,12 +137,15 @@ def struct_text(name, about, fields):
 
 
 def enums(source):
-    form = DOC + r"(?:#\[derive[^\n]*\n)?pub enum Code \{\n(.*?)\n\}"
+    """The numbered enums of a file; a member but of Code has the enum's name before its own."""
+    form = DOC + r"(?:#\[derive[^\n]*\n)?pub enum (\w+) \{\n(.*?)\n\}"
     for match in re.finditer(form, source, re.S):
+        kind, before = match.group(2), "" if match.group(2) == "Code" else match.group(2)
         rows = ""
-        for doc, name, number in re.findall(DOC + r"    (\w+) = (\d+),", match.group(2) + "\n"):
-            rows += comment(docs(doc), "    ") + f"    {c_code(name)} = {number},\n"
-        yield f"{comment(docs(match.group(1)))}enum zedbuf_code {{\n{rows}}};\n"
+        for doc, name, number in re.findall(DOC + r"    (\w+) = (\d+),", match.group(3) + "\n"):
+            rows += comment(docs(doc), "    ") + f"    {c_code(before + name)} = {number},\n"
+        if rows:
+            yield f"{comment(docs(match.group(1)))}enum {c_struct(kind)} {{\n{rows}}};\n"
 
 
 def exports(source):
@@ -159,17 +163,28 @@ def exports(source):
         yield comment(docs(about)) + line + "\n"
 
 
+def ordered(found):
+    """The structs, each after those that its fields are of."""
+    names, done = {name for name, _, _ in found}, []
+    while len(done) < len(found):
+        for one in found:
+            needs = {kind for _, _, kind in one[2]} & names
+            if one not in done and needs <= {name for name, _, _ in done}:
+                done.append(one)
+    return [struct_text(*one) for one in done]
+
+
 def header():
     kinds, codes = [], []
     files = [f"{folder}/{name}" for folder in TYPES for name in sorted(os.listdir(f"{TOP}/{folder}"))]
     for name in files:
         source = open(f"{TOP}/{name}", encoding="utf-8").read()
-        kinds += [struct_text(*found) for found in structs(source)]
+        kinds += list(structs(source))
         codes += list(enums(source))
     calls = list(exports(open(f"{TOP}/{EXPORTS}", encoding="utf-8").read()))
     if source_count() != len(calls):
         sys.exit(f"c_header.py: {source_count()} functions are exported, and {len(calls)} are understood")
-    return "\n".join([HEAD, *codes, *kinds, *calls]) + TAIL
+    return "\n".join([HEAD, *codes, *ordered(kinds), *calls]) + TAIL
 
 
 def source_count():

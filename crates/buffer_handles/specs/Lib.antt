@@ -1,7 +1,9 @@
 pub mod Anchoring
 pub mod Handles
+pub mod Positions
 pub mod Reading
 pub mod Records
 pub mod Replicas
 pub mod Saving
 pub mod Taking
+pub mod Waiting

@@ -1,9 +1,9 @@
 -- What snapshots are asked.
-use Rattle.std.specs.Prelude.{ℕ, ◌-◌, ◌&&◌, not, List, [], ◌∷◌, length, nat_lt, ◌==◌, if◌then◌else◌, slice_range, Option, None, Some}
+use Rattle.std.specs.Prelude.{ℕ, ◌-◌, ◌&&◌, not, List, [], ◌∷◌, length, map, nat_lt, ◌==◌, if◌then◌else◌, slice_range, Option, None, Some}
 use Rattle.std.specs.Str.{is_utf8}
 use Rattle.lamport_clock.specs.Versions.{Entries}
 use Rattle.op_model.specs.declared.faults.SinceFault.{SinceFault}
-use Rattle.op_model.specs.Since.{since_fault, text_at}
+use Rattle.op_model.specs.Since.{since, since_fault, text_at}
 use Rattle.snapshot_search.specs.Starts.{starts}
 use Rattle.op_model.specs.Choice.{first_of, when}
 use Rattle.op_model.specs.Edits.{is_boundary}
@@ -12,7 +12,9 @@ use Rattle.op_model.specs.declared.operation.Operation.{Operation}
 use Rattle.c_values.specs.declared.answer.Answer.{Answer}
 use Rattle.c_values.specs.declared.answer.Code.TheVariants.{InsideChar, NotUtf8, OutOfRange, PastEnd}
 use Rattle.c_values.specs.Answers.{answer, bare, since_refusal}
+use Rattle.c_values.specs.declared.text_changes.TextChange.{TextChange}
 use Rattle.c_values.specs.Room.{room_answer}
+use Rattle.c_values.specs.TextChanges.{text_change}
 
 -- why a text has no part between two offsets
 abbrev pub range_refusal : List ℕ → ℕ → ℕ → Option Answer
@@ -43,6 +45,20 @@ since_unless (Some e) n room = since_refusal e
 
 abbrev pub text_at_answer : List Operation → Entries → ℕ → Answer
 text_at_answer h v room = since_unless (since_fault h v) (length (text_at h v)) room
+
+-- the text that a version saw, of a snapshot that a handle holds
+abbrev pub text_at_inside : Option (List Operation) → Entries → List ℕ
+text_at_inside None v = []
+text_at_inside (Some h) v = text_at h v
+
+-- the answer where the edits since a version are to be written
+abbrev pub edits_answer : List Operation → Entries → ℕ → Answer
+edits_answer h v room = since_unless (since_fault h v) (length (since h v)) room
+
+-- those edits, of a snapshot that a handle holds
+abbrev pub edits_inside : Option (List Operation) → Entries → List TextChange
+edits_inside None v = []
+edits_inside (Some h) v = map text_change (since h v)
 
 abbrev pub find_answer : List ℕ → List ℕ → ℕ → Answer
 find_answer t needle room =

@@ -1,14 +1,19 @@
 -- What the calls of a replica answer, and what it is after them.
-use Rattle.std.specs.Prelude.{◌≡◌, ℕ, List, map, nat_le, ◌&&◌, ◌-◌, ◌^◌, Bool, Option, Some, None, Result, Ok, Err, if◌then◌else◌}
+use Rattle.std.specs.Prelude.{◌≡◌, ◌⊎◌, ℕ, List, map, nat_le, ◌&&◌, ◌-◌, ◌^◌, Bool, true, false, Option, Some, None, option_map, Result, Ok, Err, if◌then◌else◌, ⊤}
 use Rattle.std.specs.Str.{is_utf8}
 use Rattle.lamport_clock.specs.declared.stamp.Lamport.{Lamport}
 use Rattle.op_model.specs.declared.operation.Piece.{Piece}
 use Rattle.op_model.specs.declared.operation.Operation.{Operation}
 use Rattle.op_model.specs.declared.limits.Limits.{Limits as LimitsType}
-use Rattle.op_model.specs.declared.endings.Endings.TheVariants.{AsIs}
+use Rattle.op_model.specs.declared.endings.Endings.{Endings}
+use Rattle.op_model.specs.declared.faults.OpenFault.{OpenFault}
 use Rattle.op_model.specs.declared.faults.EditFault.{EditFault}
 use Rattle.op_model.specs.declared.faults.UndoFault.{UndoFault}
+use Rattle.op_model.specs.Histories.{SameSet}
+use Rattle.op_model.specs.Opened.{open_fault}
 use Rattle.op_model.specs.Operations.{stamp_of}
+use Rattle.op_model.specs.Rules.{text_under}
+use Rattle.op_model.specs.Shown.{text}
 use Rattle.text_buffer.specs.declared.faults.NewFault.{NewFault}
 use Rattle.text_buffer.specs.declared.faults.NewFault.TheVariants as new
 use Rattle.text_buffer.specs.Buffer.{BufferState, after_edit, after_undo, base_under, edit_fault, edit_of, new_fault, over_base, undo_fault, undo_of}
@@ -16,10 +21,11 @@ use Rattle.c_values.specs.declared.answer.Answer.{Answer}
 use Rattle.c_values.specs.declared.answer.Code.TheVariants.{Done, Full, NotUtf8, Open, OutOfRange}
 use Rattle.c_values.specs.declared.pieces.Change.{Change}
 use Rattle.c_values.specs.declared.stamps.Stamp.{Stamp}
-use Rattle.text_buffer.specs.Opening.{opened_with}
-use Rattle.c_values.specs.Records.{AreRecords}
+use Rattle.text_buffer.specs.Opening.{opened_with, rules_of}
+use Rattle.c_values.specs.Endings.{endings_at}
+use Rattle.c_values.specs.Records.{AreRecords, IsNoRecord}
 use Rattle.buffer_handles.specs.declared.replica.Replica.{Replica}
-use Rattle.c_values.specs.Answers.{answer, bare, edit_refusal, out_of_memory, stamp_answer, undo_refusal, unit_number}
+use Rattle.c_values.specs.Answers.{IsAnswer, answer, bare, edit_refusal, open_refusal, out_of_memory, stamp_answer, undo_refusal, unit_number}
 use Rattle.c_values.specs.Pieces.{pieces_from}
 use Rattle.c_values.specs.Stamps.{lamport}
 
@@ -38,29 +44,77 @@ abbrev pub answer_unless : Option NewFault → Answer
 answer_unless None = bare Done
 answer_unless (Some e) = new_refusal e
 
-abbrev pub open_answer : ℕ → List ℕ → LimitsType → Answer
-open_answer r base l =
-    if allowed r l then (if is_utf8 base then answer_unless (new_fault l base) else bare NotUtf8) else bare OutOfRange
+abbrev pub open_answer : ℕ → List ℕ → LimitsType → Endings → Answer
+open_answer r base l e =
+    if allowed r l
+    then (if is_utf8 base then answer_unless (new_fault l (text_under e base)) else bare NotUtf8)
+    else bare OutOfRange
 
-abbrev pub opened : ℕ → List ℕ → LimitsType → Replica
-opened r base l = record { buffer = over_base r (base_under AsIs base) l; made = None }
+abbrev pub opened : ℕ → List ℕ → LimitsType → Endings → Replica
+opened r base l e = record { buffer = over_base r (base_under e base) l; made = None }
+
+abbrev pub open_answer_at : ℕ → List ℕ → LimitsType → Option Endings → Answer
+open_answer_at r base l None = bare OutOfRange
+open_answer_at r base l (Some e) = open_answer r base l e
+
+-- the answer of a handle that is to be opened, by the number of the endings
+abbrev pub open_call : Option Replica → ℕ → List ℕ → LimitsType → ℕ → Answer
+open_call None r base l n = open_answer_at r base l (endings_at n)
+open_call (Some x) r base l n = bare Open
+
+-- what is then inside
+abbrev pub opened_inside : ℕ → List ℕ → LimitsType → ℕ → Option Replica
+opened_inside r base l n = option_map (opened r base l) (endings_at n)
+
+-- ---- opening a saved history
 
 -- the replica that has applied a list of operations
-abbrev pub reopened : ℕ → List Operation → LimitsType → Replica
-reopened r ops l = record { buffer = opened_with r ops l AsIs; made = None }
+abbrev pub reopened : ℕ → List Operation → LimitsType → Endings → Replica
+reopened r ops l e = record { buffer = opened_with r ops l e; made = None }
 
 -- the replica has applied the operations of the records
-abbrev pub IsReopened : ℕ → List ℕ → LimitsType → Replica → Type 0
-IsReopened r bytes l x = (ops : List Operation) × AreRecords bytes ops × (x ≡ reopened r ops l)
+pub record IsReopened (r : ℕ) (bytes : List ℕ) (l : LimitsType) (e : Endings) (x : Replica) : Type 0 where
+  pub ops : List Operation
+  pub records : AreRecords bytes ops
+  pub good : open_fault (rules_of l e) ops ≡ None
+  pub is : x ≡ reopened r ops l e
 
-abbrev pub IsReopenedInside : ℕ → List ℕ → LimitsType → Option Replica → Type 0
-IsReopenedInside r bytes l None = ⊥
-IsReopenedInside r bytes l (Some x) = IsReopened r bytes l x
+abbrev pub open_unless : Option OpenFault → Answer
+open_unless None = bare Done
+open_unless (Some f) = open_refusal f
 
--- the answer of a handle that is to be opened
-abbrev pub open_call : Option Replica → ℕ → List ℕ → LimitsType → Answer
-open_call None r base l = open_answer r base l
-open_call (Some x) r base l = bare Open
+-- the answer to records, for replicas and limits in their ranges
+abbrev pub IsHistoryAnswer : List ℕ → LimitsType → Endings → Answer → Type 0
+IsHistoryAnswer bytes l e a = IsNoRecord bytes a
+    ⊎ ((ops : List Operation) × AreRecords bytes ops × IsAnswer (open_unless (open_fault (rules_of l e) ops)) a)
+
+abbrev pub IsAnswerIf : Bool → List ℕ → LimitsType → Endings → Answer → Type 0
+IsAnswerIf true bytes l e a = IsHistoryAnswer bytes l e a
+IsAnswerIf false bytes l e a = a ≡ bare OutOfRange
+
+abbrev pub IsReopenAnswer : ℕ → List ℕ → LimitsType → Endings → Answer → Type 0
+IsReopenAnswer r bytes l e a = IsAnswerIf (allowed r l) bytes l e a
+
+abbrev pub IsReopenAnswerAt : ℕ → List ℕ → LimitsType → Option Endings → Answer → Type 0
+IsReopenAnswerAt r bytes l None a = a ≡ bare OutOfRange
+IsReopenAnswerAt r bytes l (Some e) a = IsReopenAnswer r bytes l e a
+
+-- the answer of a handle in which a saved history is to be opened, by the number of the endings
+abbrev pub IsReopenCall : Option Replica → ℕ → List ℕ → LimitsType → ℕ → Answer → Type 0
+IsReopenCall None r bytes l n a = IsReopenAnswerAt r bytes l (endings_at n) a
+IsReopenCall (Some x) r bytes l n a = a ≡ bare Open
+
+-- what is then inside
+abbrev pub IsReopenedBy : ℕ → List ℕ → LimitsType → Endings → Option Replica → Type 0
+IsReopenedBy r bytes l e None = ⊥
+IsReopenedBy r bytes l e (Some x) = IsReopened r bytes l e x
+
+abbrev pub IsReopenedUnder : ℕ → List ℕ → LimitsType → Option Endings → Option Replica → Type 0
+IsReopenedUnder r bytes l None x = ⊥
+IsReopenedUnder r bytes l (Some e) x = IsReopenedBy r bytes l e x
+
+abbrev pub IsReopenedInside : ℕ → List ℕ → LimitsType → ℕ → Option Replica → Type 0
+IsReopenedInside r bytes l n x = IsReopenedUnder r bytes l (endings_at n) x
 
 -- ---- edits
 
@@ -118,3 +172,15 @@ history_inside (Some r) = Some r.buffer.history
 abbrev pub snapshot_answer : Option (List Operation) → Answer
 snapshot_answer None = bare Done
 snapshot_answer (Some h) = bare Open
+
+-- ---- handles with the same operations
+
+-- two replicas with the same operations, in whatever order, have the same text
+abbrev pub Agree : Replica → Replica → Type 0
+Agree r s = SameSet r.buffer.history s.buffer.history → text r.buffer.history ≡ text s.buffer.history
+
+-- the same of handles, by what is inside
+abbrev pub AgreeInside : Option Replica → Option Replica → Type 0
+AgreeInside None s = ⊤
+AgreeInside (Some r) None = ⊤
+AgreeInside (Some r) (Some s) = Agree r s

@@ -1,5 +1,5 @@
 -- Operations that a buffer takes, one or many.
-use Rattle.std.specs.Prelude.{◌≡◌, ◌≢◌, ◌⊎◌, ℕ, length, map, List, [], ◌∷◌, Option, None, Some}
+use Rattle.std.specs.Prelude.{◌≡◌, ◌⊎◌, ℕ, length, map, List, [], ◌∷◌, Option, None, Some}
 use Rattle.op_model.specs.declared.operation.Operation.{Operation}
 use Rattle.op_model.specs.declared.faults.OpFault.{OpFault}
 use Rattle.op_model.specs.Answers.{Answer}
@@ -12,7 +12,7 @@ use Rattle.c_values.specs.declared.answer.Code.TheVariants.{Done}
 use Rattle.c_values.specs.Answers.{answer, bare, op_refusal, out_of_memory}
 use Rattle.c_values.specs.declared.answer.Code.TheVariants.{Closed}
 use Rattle.buffer_handles.specs.declared.replica.Replica.{Replica}
-use Rattle.c_values.specs.Records.{AreRecords}
+use Rattle.c_values.specs.Records.{AreRecords, IsNoRecord}
 
 -- the fault of a refusal
 abbrev pub fault_of : Answer → Option OpFault
@@ -50,7 +50,7 @@ AreTaken ops b n a =
 abbrev pub IsTaken : List ℕ → BufferState → BufferState → AnswerType → Type 0
 IsTaken bytes b n a =
     ((ops : List Operation) × AreRecords bytes ops × AreTaken ops b n a)
-    ⊎ ((a.code ≢ 0) × (n ≡ b))
+    ⊎ (IsNoRecord bytes a × (n ≡ b))
 
 -- the same of a handle, by what is inside before and after
 abbrev pub TakesInside : List ℕ → Option Replica → Option Replica → AnswerType → Type 0

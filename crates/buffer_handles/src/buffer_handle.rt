@@ -92,3 +92,5 @@ impl BufferHandle {
         }
     }
 }
+
+unsafe impl Send for BufferHandle {}

@@ -3,15 +3,20 @@ ghost use Rattle.std.specs.Prelude.{◌≡◌, ◌≤◌, IfNone, length, map, s
 ghost use Rattle.std.specs.Str.{IsCharBoundary};
 ghost use Rattle.op_model.specs.Edits.{is_boundary};
 ghost use Rattle.op_model.specs.Shown.{text};
-ghost use Rattle.op_model.specs.Since.{text_at};
+ghost use Rattle.op_model.specs.Since.{since, text_at};
 ghost use Rattle.snapshot_search.specs.Starts.{starts};
 ghost use Rattle.c_values.specs.Answers.{IsAnswer, IsRead};
-ghost use Rattle.buffer_handles.specs.Reading.{find_answer, range_refusal, text_answer, text_at_answer};
-ghost use Rattle.c_values.specs.Room.{over};
+ghost use Rattle.buffer_handles.specs.Reading.{edits_answer, find_answer, range_refusal, text_answer, text_at_answer};
+ghost use Rattle.c_values.specs.Room.{over, room_answer};
 ghost use Rattle.c_values.specs.Seen.{IsVersionAnswer, entry};
+ghost use Rattle.c_values.specs.TextChanges.{text_change};
 
-use c_values::{Answer, Code, Seen, since_refusal, utf8_of, version_of, write_front};
+use c_values::{
+    Answer, Code, Seen, TextChange, since_refusal, text_changes_of, utf8_of, version_of,
+    write_front,
+};
 use lamport_clock::Version;
+use op_model::TextEdit;
 use rope_chunks::Rope;
 use snapshot_search::find_all;
 use std::alloc::Global;
@@ -101,6 +106,59 @@ fn write_text_at(snapshot: &Snapshot, version: &Version, into: &mut [u8]) -> Ans
     match snapshot.text_at(version) {
         Ok(text) => write_front(text.as_bytes(), into),
         Err(fault) => since_refusal(fault),
+    }
+}
+
+/// Writes the edits that take the text that a version saw to the text of the snapshot, as many as fit, as
+/// [`Snapshot::since`] makes them. The answer has their number.
+///
+/// # Errors
+///
+/// `OutOfRange` where the entries are no version, `Unseen`, `OpenVersion`; the first of these. `OutOfMemory` if an
+/// allocation fails.
+pub fn read_edits(
+    alloc: Global,
+    snapshot: &Snapshot,
+    version: &[Seen],
+    into: &mut [TextChange],
+) -> Answer
+    ensures answer { IsVersionAnswer (map entry version.now)
+        (edits_answer snapshot.now (map entry version.now) (length into.old)) result }
+    ensures written { IsRead result
+        → into.new ≡ over (map text_change (since snapshot.now (map entry version.now))) into.old }
+{
+    let version = match version_of(alloc, version) {
+        Ok(version) => version,
+        Err(answer) => return answer,
+    };
+    write_edits(alloc, snapshot, &version, into)
+}
+
+fn write_edits(
+    alloc: Global,
+    snapshot: &Snapshot,
+    version: &Version,
+    into: &mut [TextChange],
+) -> Answer
+    ensures answer { IsVersionAnswer version.now
+        (edits_answer snapshot.now version.now (length into.old)) result }
+    ensures written { IsRead result
+        → into.new ≡ over (map text_change (since snapshot.now version.now)) into.old }
+{
+    version.known();
+    match snapshot.since(version) {
+        Ok(edits) => write_changes(alloc, edits.as_slice(), into),
+        Err(fault) => since_refusal(fault),
+    }
+}
+
+fn write_changes(alloc: Global, edits: &[TextEdit], into: &mut [TextChange]) -> Answer
+    ensures answer { IsAnswer (room_answer (length edits.now) (length into.old)) result }
+    ensures written { IsRead result → into.new ≡ over (map text_change edits.now) into.old }
+{
+    match text_changes_of(alloc, edits) {
+        Ok(changes) => write_front(&changes, into),
+        Err(_) => Answer::bare(Code::OutOfMemory),
     }
 }
 

@@ -1,10 +1,15 @@
 //! A replica: its buffer, and what its author made last.
-ghost use Rattle.std.specs.Prelude.{◌≡◌, ◌≢◌, Some, IfErr, IfOk, length, true};
+ghost use Rattle.std.specs.Prelude.{◌≡◌, ◌≢◌, ◌⊎◌, Some, None, IfErr, IfOk, OnOk, length, true};
+ghost use Rattle.op_model.specs.Opened.{open_fault};
 ghost use Rattle.op_model.specs.Operations.{stamp_of};
+ghost use Rattle.op_model.specs.Rules.{text_under};
+ghost use Rattle.text_buffer.specs.Buffer.{base_under, new_fault, over_base};
+ghost use Rattle.text_buffer.specs.Opening.{rules_of};
 ghost use Rattle.c_values.specs.Answers.{IsAnswer, IsRead, IsRefusal, bare, stamp_answer};
 ghost use Rattle.buffer_handles.specs.Records.{made_record, record_answer};
 ghost use Rattle.c_values.specs.Room.{over};
-ghost use Rattle.buffer_handles.specs.Replicas.{IsReopened, allowed, edit_answer, edit_outcome, edited, new_refusal, open_answer, opened, reopened, undo_answer, undo_outcome, undone, with_edit, with_undo};
+ghost use Rattle.buffer_handles.specs.Waiting.{forget_answer, forgotten};
+ghost use Rattle.buffer_handles.specs.Replicas.{IsReopenAnswer, IsReopened, allowed, edit_answer, edit_outcome, edited, new_refusal, open_answer, open_unless, opened, reopened, undo_answer, undo_outcome, undone, with_edit, with_undo};
 
 use c_values::{
     Answer, Change, Code, Stamp, edit_refusal, open_refusal, operations_of, pieces_of, stamps_of,
@@ -43,17 +48,46 @@ fn is_allowed(replica: u16, limits: Limits) -> bool
         && limits.entries <= Limits::MOST.entries
 }
 
+// The buffer of a replica over a base text, by what it does with line endings.
+fn buffer_over(
+    alloc: Global,
+    replica: u16,
+    base: &str,
+    limits: Limits,
+    endings: Endings,
+) -> Result<Buffer, NewFault>
+    requires { allowed replica limits ≡ true }
+    ensures ok { OnOk result (new_fault limits (text_under endings base.now) ≡ None) }
+    ensures new { IfOk result (λ b. b ≡ over_base replica (base_under endings base.now) limits) }
+    ensures fault { IfErr result
+        (λ e. (new_fault limits (text_under endings base.now) ≡ Some e)
+        ⊎ ((new_fault limits (text_under endings base.now) ≡ None) × (e ≡ NewFault.OutOfMemory))) }
+{
+    match endings {
+        Endings::AsIs => Buffer::new(alloc, replica, base, limits),
+        Endings::Lf => Buffer::new_lf(alloc, replica, base, limits),
+    }
+}
+
 impl Replica {
-    /// Opens the buffer of a replica, 1 to 1023, over a base text, as [`Buffer::new`] does. Linear in the base.
+    /// Opens the buffer of a replica, 1 to 1023, over a base text, as [`Buffer::new`] does, or, where it is to have LFs
+    /// alone, as [`Buffer::new_lf`] does. Linear in the base.
     ///
     /// # Errors
     ///
     /// `OutOfRange` where the replica or the limits are out of their ranges, `NotUtf8` where the base is not UTF-8,
     /// `Full`; the first of these. `OutOfMemory` if an allocation fails, and only where there is none of these.
-    pub fn open(alloc: Global, replica: u16, base: &[u8], limits: Limits) -> Result<Replica, Answer>
-        ensures opened { IfOk result (λ r. r ≡ opened replica base.now limits) }
-        ensures ok { IfOk result (λ _. open_answer replica base.now limits ≡ bare Code.Done) }
-        ensures err { IfErr result (IsRefusal (open_answer replica base.now limits)) }
+    pub fn open(
+        alloc: Global,
+        replica: u16,
+        base: &[u8],
+        limits: Limits,
+        endings: Endings,
+    ) -> Result<Replica, Answer>
+        ensures opened { IfOk result (λ r. r ≡ opened replica base.now limits endings) }
+        ensures ok { IfOk result
+            (λ _. open_answer replica base.now limits endings ≡ bare Code.Done) }
+        ensures err { IfErr result (IsRefusal (open_answer replica base.now limits endings)) }
     {
         if !is_allowed(replica, limits) {
             return Err(Answer::bare(Code::OutOfRange));
@@ -61,7 +95,7 @@ impl Replica {
         let Some(text) = utf8_of(base) else {
             return Err(Answer::bare(Code::NotUtf8));
         };
-        match Buffer::new(alloc, replica, text, limits) {
+        match buffer_over(alloc, replica, text, limits, endings) {
             Ok(buffer) => Ok(Replica { buffer, made: None }),
             Err(fault) => Err(new_refusal(fault)),
         }
@@ -74,20 +108,24 @@ impl Replica {
     /// `OutOfRange` where the replica or the limits are out of their ranges, `NoRecord` where the bytes are no records,
     /// the faults of [`Buffer::open`], with the index of the operation; the first of these. `OutOfMemory` if an allocation
     /// fails.
+    #[tactic(auto, using(crate::proofs::Opens::reopen_out, crate::proofs::Opens::reopen_no_record, crate::proofs::Opens::reopen_history))]
     pub fn reopen(
         alloc: Global,
         replica: u16,
         records: &[u8],
         limits: Limits,
+        endings: Endings,
     ) -> Result<Replica, Answer>
-        ensures opened { IfOk result (IsReopened replica records.now limits) }
+        ensures opened { IfOk result (IsReopened replica records.now limits endings) }
+        ensures allowed { OnOk result (allowed replica limits ≡ true) }
         ensures err { IfErr result (λ a. a.code ≢ 0) }
+        ensures cause { IfErr result (IsReopenAnswer replica records.now limits endings) }
     {
         if !is_allowed(replica, limits) {
             return Err(Answer::bare(Code::OutOfRange));
         }
         match operations_of(alloc, records) {
-            Ok(ops) => Replica::with_operations(alloc, replica, ops, limits),
+            Ok(ops) => Replica::with_operations(alloc, replica, ops, limits, endings),
             Err(answer) => Err(answer),
         }
     }
@@ -98,12 +136,16 @@ impl Replica {
         replica: u16,
         ops: Vec<Operation>,
         limits: Limits,
+        endings: Endings,
     ) -> Result<Replica, Answer>
         requires { allowed replica limits ≡ true }
-        ensures opened { IfOk result (λ r. r ≡ reopened replica ops.items limits) }
+        ensures opened { IfOk result (λ r. r ≡ reopened replica ops.items limits endings) }
+        ensures good { OnOk result (open_fault (rules_of limits endings) ops.items ≡ None) }
         ensures err { IfErr result (λ a. a.code ≢ 0) }
+        ensures cause { IfErr result
+            (IsAnswer (open_unless (open_fault (rules_of limits endings) ops.items))) }
     {
-        match Buffer::open(alloc, replica, ops, limits, Endings::AsIs) {
+        match Buffer::open(alloc, replica, ops, limits, endings) {
             Ok(buffer) => Ok(Replica { buffer, made: None }),
             Err(fault) => Err(open_refusal(fault)),
         }
@@ -163,6 +205,18 @@ impl Replica {
         match self.buffer.undo(edits) {
             Ok(op) => self.keep(op),
             Err(fault) => undo_refusal(fault),
+        }
+    }
+
+    /// Forgets the operation of a stamp, if it waits, as [`Buffer::forget`] does. The answer has the number of operations
+    /// that were forgotten, 0 or 1. Logarithmic in what waits; does not allocate.
+    pub fn forget(&mut self, stamp: &Stamp) -> Answer
+        ensures answer { result ≡ forget_answer self.old stamp.now }
+        ensures new { self.new ≡ forgotten self.old stamp.now }
+    {
+        match self.buffer.forget(stamp.lamport()) {
+            Some(_) => Answer::new(Code::Done, 1, 0, 0),
+            None => Answer::new(Code::Done, 0, 0, 0),
         }
     }
 

@@ -1,11 +1,11 @@
 //! Histories as records: saved, sent to a replica that lacks a part of them, and opened again.
-ghost use Rattle.std.specs.Prelude.{◌≡◌, ◌++◌, IfOk, OnOk, length, map};
+ghost use Rattle.std.specs.Prelude.{◌≡◌, ◌++◌, None, IfErr, IfOk, OnOk, length, map};
 ghost use Rattle.std.specs.List.{flat_map};
 ghost use Rattle.op_model.specs.Histories.{version};
 ghost use Rattle.c_values.specs.Answers.{IsAnswer, IsRead};
 ghost use Rattle.c_values.specs.Room.{over};
 ghost use Rattle.c_values.specs.Seen.{entry, seen};
-ghost use Rattle.buffer_handles.specs.Saving.{IsUnseenAnswer, unseen_record, version_answer};
+ghost use Rattle.buffer_handles.specs.Saving.{IsLong, IsUnseenAnswer, first_long, unseen_long, unseen_record, version_answer};
 
 use applied_ops::Applied;
 use c_values::{Answer, Code, Seen, seen_of, version_of, write_front};
@@ -23,7 +23,10 @@ fn push_unseen(
     op: &Operation,
     version: &Version,
 ) -> Result<(), EncodeFault>
-    ensures { OnOk result (bytes.new.items ≡ bytes.old.items ++ unseen_record version.now op.now) }
+    ensures new { OnOk result
+        (bytes.new.items ≡ bytes.old.items ++ unseen_record version.now op.now) }
+    ensures short { OnOk result (unseen_long version.now op.now ≡ None) }
+    ensures long { IfErr result (IsLong (unseen_long version.now op.now)) }
 {
     if version.sees(op.stamp()) {
         return Ok(());
@@ -39,8 +42,10 @@ fn unseen_records(
     applied: &SumTree<Applied>,
     version: &Version,
 ) -> Result<Vec<u8>, EncodeFault>
-    ensures { IfOk result (λ bytes. bytes.items
+    ensures written { IfOk result (λ bytes. bytes.items
         ≡ flat_map (unseen_record version.now) applied.now.items) }
+    ensures short { OnOk result (first_long version.now applied.now.items ≡ None) }
+    ensures long { IfErr result (IsLong (first_long version.now applied.now.items)) }
 {
     let mut bytes = Vec::new(alloc);
     for i in 0..applied.len() {

@@ -92,3 +92,5 @@ impl SnapshotHandle {
         }
     }
 }
+
+unsafe impl Send for SnapshotHandle {}

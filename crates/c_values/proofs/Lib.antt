@@ -1,1 +1,2 @@
+mod NoRecords
 mod PiecesMade

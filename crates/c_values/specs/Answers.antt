@@ -17,7 +17,7 @@ use Rattle.op_model.specs.declared.faults.Unit.{Unit as UnitType}
 use Rattle.op_model.specs.declared.faults.Unit.TheVariants.{Bytes, Entries}
 use Rattle.c_values.specs.declared.answer.Answer.{Answer}
 use Rattle.c_values.specs.declared.answer.Code.{Code}
-use Rattle.c_values.specs.declared.answer.Code.TheVariants.{Done, Reversed, Overlap, PastEnd, InsideChar, TextLimit, ClockEnd, Full, NoSuchEdit, Twice, CountEnd, BadStamp, NoBase, Conflict, Forked, OpenVersion, Carriage, Unseen, NotBase, Repeat, Early, OutOfMemory, NotUtf8, NoRecord, NoRoom, Unknown, OutOfRange, Closed, Open, TooLong}
+use Rattle.c_values.specs.declared.answer.Code.TheVariants.{Done, Reversed, Overlap, PastEnd, InsideChar, TextLimit, ClockEnd, Full, NoSuchEdit, Twice, CountEnd, BadStamp, NoBase, Conflict, Forked, OpenVersion, Carriage, Unseen, NotBase, Repeat, Early, OutOfMemory, NotUtf8, NoRecord, NoRoom, Unknown, OutOfRange, Closed, Open, TooLong, NoPlace}
 
 -- the number of a code
 abbrev pub number : Code → ℕ
@@ -51,6 +51,7 @@ number OutOfRange = 105
 number Closed = 106
 number Open = 107
 number TooLong = 108
+number NoPlace = 109
 
 -- the answer of a code with its numbers
 abbrev pub answer : Code → ℕ → ℕ → ℕ → Answer

@@ -1,7 +1,10 @@
 pub mod Anchors
 pub mod Answers
+pub mod Endings
 pub mod Pieces
 pub mod Records
+pub mod Refusals
 pub mod Room
 pub mod Seen
 pub mod Stamps
+pub mod TextChanges

@@ -1,8 +1,9 @@
 -- Records of operations: what is written of a replica, and what is read.
-use Rattle.std.specs.Prelude.{◌≡◌, ℕ, List, [], length, Option, None, Some}
+use Rattle.std.specs.Prelude.{◌≡◌, ◌⊎◌, ℕ, List, [], Option, None, Some, Err}
 use Rattle.std.specs.List.{AllByRecursion, flat_map}
 use Rattle.op_model.specs.declared.operation.Operation.{Operation}
 use Rattle.op_wire.specs.Spelling.{HasSpelling, long_number, spelling}
+use Rattle.op_wire.specs.Stream.{Fed, FeedCause, HasRead, finished, fresh}
 use Rattle.op_wire.specs.declared.fault.WireFault.{WireFault}
 use Rattle.op_wire.specs.declared.fault.WireFault.TheVariants as wire
 use Rattle.c_values.specs.declared.answer.Answer.{Answer}
@@ -29,3 +30,12 @@ wire_refusal (wire.Long at) = answer NoRecord at 0 0
 wire_refusal (wire.Utf8 at) = answer NoRecord at 0 0
 wire_refusal (wire.Cut at) = answer NoRecord at 0 0
 wire_refusal wire.OutOfMemory = out_of_memory
+
+-- a reader that is fed the bytes answers this fault, at once, or where the stream is to end
+abbrev pub IsFaultOf : List ℕ → WireFault → Type 0
+IsFaultOf bytes e = (ops : List Operation) × (new : Fed)
+    × (FeedCause e fresh bytes [] ops new ⊎ (HasRead fresh bytes [] ops new × (finished new ≡ Err e)))
+
+-- the answer where bytes are no records, or an allocation failed
+abbrev pub IsNoRecord : List ℕ → Answer → Type 0
+IsNoRecord bytes a = (e : WireFault) × IsFaultOf bytes e × (a ≡ wire_refusal e)

@@ -85,6 +85,8 @@ pub enum Code {
     Open = 107,
     /// The operation has no record: a number of it is `first`, more than 65,536.
     TooLong = 108,
+    /// The text has no such place: it is past the end of the text or of its row, or inside a character.
+    NoPlace = 109,
 }
 
 impl Code {

@@ -2,7 +2,7 @@
 ghost use Rattle.std.specs.Prelude.{◌≡◌, ◌≢◌, IfErr, IfOk, length};
 ghost use Rattle.op_wire.specs.Spelling.{long_number, spelling};
 ghost use Rattle.c_values.specs.Answers.{IsAnswer, IsRead};
-ghost use Rattle.c_values.specs.Records.{AreRecords, record_unless, wire_refusal};
+ghost use Rattle.c_values.specs.Records.{AreRecords, IsNoRecord, record_unless, wire_refusal};
 ghost use Rattle.c_values.specs.Room.{over};
 
 use crate::answer::{Answer, Code};
@@ -49,9 +49,11 @@ fn refusal_of(fault: WireFault) -> Answer
 ///
 /// `NoRecord` with the offset of the first faulty field, or of the record that is cut off. `OutOfMemory` if an
 /// allocation fails.
+#[tactic(auto, using(crate::proofs::NoRecords::feed_refused, crate::proofs::NoRecords::finish_refused))]
 pub fn operations_of(alloc: Global, bytes: &[u8]) -> Result<Vec<Operation>, Answer>
     ensures ok { IfOk result (λ ops. AreRecords bytes.now ops.items) }
     ensures err { IfErr result (λ a. a.code ≢ 0) }
+    ensures cause { IfErr result (IsNoRecord bytes.now) }
 {
     let mut ops = Vec::new(alloc);
     let mut reader = WireReader::new(alloc);

@@ -1,6 +1,6 @@
-//! Stamps, as C hands them in.
+//! Stamps, as C hands them in and gets them.
 ghost use Rattle.std.specs.Prelude.{◌≡◌, map, IfOk};
-ghost use Rattle.c_values.specs.Stamps.{lamport};
+ghost use Rattle.c_values.specs.Stamps.{lamport, stamp};
 
 use lamport_clock::Lamport;
 use op_model::OutOfMemory;
@@ -16,6 +16,28 @@ pub struct Stamp {
     pub replica: u16,
 }
 
+impl Stamp {
+    /// The stamp as C gets it. O(1); does not allocate.
+    pub fn of(t: Lamport) -> Stamp
+        ensures { result ≡ stamp t }
+    {
+        Stamp {
+            value: t.value,
+            replica: t.replica,
+        }
+    }
+
+    /// The stamp that C handed in. O(1); does not allocate.
+    pub fn lamport(self) -> Lamport
+        ensures { result ≡ lamport self }
+    {
+        Lamport {
+            value: self.value,
+            replica: self.replica,
+        }
+    }
+}
+
 /// The stamps, in their order. Linear in their number; allocates once.
 ///
 /// # Errors
@@ -26,10 +48,7 @@ pub fn stamps_of(alloc: Global, stamps: &[Stamp]) -> Result<Vec<Lamport>, OutOfM
 {
     let mut made = Vec::with_capacity(alloc, stamps.len())?;
     for stamp in stamps {
-        made.push(Lamport {
-            value: stamp.value,
-            replica: stamp.replica,
-        })?;
+        made.push(stamp.lamport())?;
     }
     Ok(made)
 }

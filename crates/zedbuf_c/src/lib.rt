@@ -6,25 +6,29 @@ ghost use Rattle.op_model.specs.Shown.{text};
 ghost use Rattle.buffer_handles.specs.Anchoring.{IsMadeInside, anchor_answer, compare_answer, resolve_answer};
 ghost use Rattle.c_values.specs.Anchors.{unflat};
 ghost use Rattle.c_values.specs.Answers.{IsAnswer, IsRead, answer, on_open};
-ghost use Rattle.buffer_handles.specs.Reading.{find_answer, starts_inside, text_answer, text_part};
+ghost use Rattle.buffer_handles.specs.Positions.{position_answer, position_inside};
+ghost use Rattle.buffer_handles.specs.Reading.{edits_answer, edits_inside, find_answer, starts_inside, text_answer, text_at_answer, text_at_inside, text_part};
 ghost use Rattle.buffer_handles.specs.Records.{record_answer, record_inside};
-ghost use Rattle.buffer_handles.specs.Replicas.{IsReopenedInside, edit_answer, edited, history_inside, open_call, opened, snapshot_answer, undo_answer, undone};
+ghost use Rattle.buffer_handles.specs.Replicas.{IsReopenCall, IsReopenedInside, edit_answer, edited, history_inside, open_call, opened_inside, snapshot_answer, undo_answer, undone};
 ghost use Rattle.c_values.specs.Room.{over};
-ghost use Rattle.c_values.specs.Seen.{entry};
+ghost use Rattle.c_values.specs.Seen.{IsVersionAnswerInside, entry};
 ghost use Rattle.buffer_handles.specs.Saving.{IsRecordsInside, records_inside, version_answer, version_inside};
 ghost use Rattle.buffer_handles.specs.Taking.{SettlesInside, TakesInside};
+ghost use Rattle.buffer_handles.specs.Waiting.{forget_answer, forgotten, refused_answer, refused_inside, waiting_answer, waiting_inside};
 
 use buffer_handles::{
-    Answer, BufferHandle, Change, Code, FlatAnchor, Seen, SnapshotHandle, Stamp, anchor_at, close,
-    compare, edit, find, length, open, record, records, release, reopen, resolve, settle, snapshot,
-    take, text, undo, version,
+    Answer, BufferHandle, Change, Code, FlatAnchor, Position, Refusal, Seen, SnapshotHandle, Stamp,
+    TextChange, anchor_at, close, compare, edit, edits_since, find, forget, length, open,
+    position_at, record, records, refused, release, reopen, resolve, settle, share, snapshot, take,
+    text, text_at, undo, version, waiting,
 };
 use op_model::Limits;
 use std::alloc::Global;
 
 /// Opens the buffer of a replica, 1 to 1023, over a base text, in a handle that is closed. The limits are at most 2^40
 /// bytes of new texts, the base's among them, and 2^40 - 1 entries: one for each operation and each piece or count. All
-/// replicas of a document are opened over the same base. Linear in the base.
+/// replicas of a document are opened over the same base, and with the same endings: with 0 texts enter as they are, with
+/// 1 each CR LF and each other CR, of the base and of the new texts of edits, enters as one LF. Linear in the base.
 #[unsafe(no_mangle)]
 pub extern "C" fn zedbuf_open(
     alloc: Global,
@@ -33,25 +37,26 @@ pub extern "C" fn zedbuf_open(
     base: &[u8],
     limit_bytes: u64,
     limit_entries: u64,
+    endings: u32,
 ) -> Answer
     ensures answer { IsAnswer (open_call buffer.old.inside replica base.now
-        (record { bytes = limit_bytes; entries = limit_entries })) result }
-    ensures done { result.code ≡ 0 → buffer.new.inside
-        ≡ Some (opened replica base.now
-        (record { bytes = limit_bytes; entries = limit_entries })) }
+        (record { bytes = limit_bytes; entries = limit_entries }) endings) result }
+    ensures done { result.code ≡ 0 → buffer.new.inside ≡ opened_inside replica base.now
+        (record { bytes = limit_bytes; entries = limit_entries }) endings }
     ensures kept { result.code ≢ 0 → buffer.new.inside ≡ buffer.old.inside }
 {
     let limits = Limits {
         bytes: limit_bytes,
         entries: limit_entries,
     };
-    open(alloc, buffer, replica, base, limits)
+    open(alloc, buffer, replica, base, limits, endings)
 }
 
 /// Opens a saved history in a handle that is closed: the records of all its operations, as `zedbuf_records_since` writes
-/// them for the empty version. The replica and the limits are as for `zedbuf_open`. A replica that goes on under its own
-/// number opens the newest history that it saved, with all that it ever sent. Each operation costs what it costs to take
-/// it.
+/// them for the empty version. The replica, the limits and the endings are as for `zedbuf_open`. A replica that goes on
+/// under its own number opens the newest history that it saved, with all that it ever sent. Where the last record is cut
+/// off, ZEDBUF_NO_RECORD has the offset at which it begins, and the records before it may be opened. Each operation
+/// costs what it costs to take it.
 #[unsafe(no_mangle)]
 pub extern "C" fn zedbuf_reopen(
     alloc: Global,
@@ -60,9 +65,12 @@ pub extern "C" fn zedbuf_reopen(
     records: &[u8],
     limit_bytes: u64,
     limit_entries: u64,
+    endings: u32,
 ) -> Answer
+    ensures answer { IsReopenCall buffer.old.inside replica records.now
+        (record { bytes = limit_bytes; entries = limit_entries }) endings result }
     ensures done { result.code ≡ 0 → IsReopenedInside replica records.now
-        (record { bytes = limit_bytes; entries = limit_entries }) buffer.new.inside }
+        (record { bytes = limit_bytes; entries = limit_entries }) endings buffer.new.inside }
     ensures kept { result.code ≢ 0 → buffer.new.inside ≡ buffer.old.inside }
     ensures closed { result.code ≡ 0 → buffer.old.inside ≡ None }
 {
@@ -70,7 +78,7 @@ pub extern "C" fn zedbuf_reopen(
         bytes: limit_bytes,
         entries: limit_entries,
     };
-    reopen(alloc, buffer, replica, records, limits)
+    reopen(alloc, buffer, replica, records, limits, endings)
 }
 
 /// Closes a buffer, and frees all that it holds; snapshots of it stay. A handle that is closed stays so.
@@ -145,6 +153,49 @@ pub extern "C" fn zedbuf_settle(alloc: Global, buffer: &mut BufferHandle) -> Ans
     settle(alloc, buffer)
 }
 
+/// Forgets an operation that waits: a caller that bounds how many it keeps goes through `zedbuf_waiting` and forgets
+/// those that are too many. It may be taken again. The answer has the number of operations that were forgotten, 0 or 1.
+/// Logarithmic in what waits.
+#[unsafe(no_mangle)]
+pub extern "C" fn zedbuf_forget(alloc: Global, buffer: &mut BufferHandle, stamp: &Stamp) -> Answer
+    ensures answer { result ≡ on_open buffer.old.inside (λ r. forget_answer r stamp.now) }
+    ensures new { buffer.new.inside ≡ option_map (λ r. forgotten r stamp.now) buffer.old.inside }
+{
+    forget(alloc, buffer, stamp)
+}
+
+/// Writes the stamps of the operations that wait for others, the least first. The answer has their number. Linear in
+/// them.
+#[unsafe(no_mangle)]
+pub extern "C" fn zedbuf_waiting(
+    alloc: Global,
+    buffer: &mut BufferHandle,
+    into: &mut [Stamp],
+) -> Answer
+    ensures answer { IsAnswer (on_open buffer.old.inside
+        (λ r. waiting_answer r.buffer (length into.old))) result }
+    ensures written { IsRead result → into.new ≡ over (waiting_inside buffer.old.inside) into.old }
+    ensures kept { buffer.new.inside ≡ buffer.old.inside }
+{
+    waiting(alloc, buffer, into)
+}
+
+/// Writes which operations waited and were refused at their turn, and why, in the order of their turns. The answer has
+/// their number. Linear in them.
+#[unsafe(no_mangle)]
+pub extern "C" fn zedbuf_refused(
+    alloc: Global,
+    buffer: &mut BufferHandle,
+    into: &mut [Refusal],
+) -> Answer
+    ensures answer { IsAnswer (on_open buffer.old.inside
+        (λ r. refused_answer r.buffer (length into.old))) result }
+    ensures written { IsRead result → into.new ≡ over (refused_inside buffer.old.inside) into.old }
+    ensures kept { buffer.new.inside ≡ buffer.old.inside }
+{
+    refused(alloc, buffer, into)
+}
+
 /// Writes the buffer's version: of each replica the greatest stamp value that is applied. The answer has the number of
 /// its entries. Linear in them.
 #[unsafe(no_mangle)]
@@ -196,6 +247,22 @@ pub extern "C" fn zedbuf_snapshot_of(
     snapshot(alloc, buffer, into)
 }
 
+/// Makes another snapshot of the same, in a handle that is closed. Nothing is copied: constant time.
+#[unsafe(no_mangle)]
+pub extern "C" fn zedbuf_share(
+    alloc: Global,
+    snapshot: &mut SnapshotHandle,
+    into: &mut SnapshotHandle,
+) -> Answer
+    ensures answer { IsAnswer (on_open snapshot.old.inside
+        (λ _. snapshot_answer into.old.inside)) result }
+    ensures done { result.code ≡ 0 → into.new.inside ≡ snapshot.old.inside }
+    ensures refused { result.code ≢ 0 → into.new.inside ≡ into.old.inside }
+    ensures kept { snapshot.new.inside ≡ snapshot.old.inside }
+{
+    share(alloc, snapshot, into)
+}
+
 /// Closes a snapshot, and frees what nothing else shares with it. A handle that is closed stays so.
 #[unsafe(no_mangle)]
 pub extern "C" fn zedbuf_release(alloc: Global, snapshot: &mut SnapshotHandle)
@@ -230,6 +297,65 @@ pub extern "C" fn zedbuf_text(
     ensures kept { snapshot.new.inside ≡ snapshot.old.inside }
 {
     text(alloc, snapshot, start, end, into)
+}
+
+/// Writes a place of the text in all kinds of position. The kind ZEDBUF_KIND_OFFSET names it by its offset in bytes,
+/// ZEDBUF_KIND_UTF16 by its offset in UTF-16 units; the column is then not looked at. ZEDBUF_KIND_POINT names it by its
+/// row and a column in bytes, ZEDBUF_KIND_POINT_UTF16 by its row and a column in UTF-16 units. A few descents.
+#[unsafe(no_mangle)]
+pub extern "C" fn zedbuf_position_at(
+    alloc: Global,
+    snapshot: &mut SnapshotHandle,
+    kind: u32,
+    number: u64,
+    column: u64,
+    into: &mut Position,
+) -> Answer
+    ensures answer { result ≡ on_open snapshot.old.inside
+        (λ h. position_answer h kind number column) }
+    ensures written { result.code ≡ 0
+        → position_inside snapshot.old.inside kind number column ≡ Some into.new }
+    ensures refused { result.code ≢ 0 → into.new ≡ into.old }
+    ensures kept { snapshot.new.inside ≡ snapshot.old.inside }
+{
+    position_at(alloc, snapshot, kind, number, column, into)
+}
+
+/// Writes the text that a version saw. The answer has its length. The cost grows with what changed since, and with the
+/// text.
+#[unsafe(no_mangle)]
+pub extern "C" fn zedbuf_text_at(
+    alloc: Global,
+    snapshot: &mut SnapshotHandle,
+    version: &[Seen],
+    into: &mut [u8],
+) -> Answer
+    ensures answer { IsVersionAnswerInside snapshot.old.inside (map entry version.now)
+        (λ h. text_at_answer h (map entry version.now) (length into.old)) result }
+    ensures written { IsRead result → into.new
+        ≡ over (text_at_inside snapshot.old.inside (map entry version.now)) into.old }
+    ensures kept { snapshot.new.inside ≡ snapshot.old.inside }
+{
+    text_at(alloc, snapshot, version, into)
+}
+
+/// Writes what changed since a version: the ranges of the text that it saw, and the ranges of this text that stand in
+/// their place, in bytes; they ascend and do not touch. The answer has their number. The cost grows with what changed
+/// since.
+#[unsafe(no_mangle)]
+pub extern "C" fn zedbuf_edits_since(
+    alloc: Global,
+    snapshot: &mut SnapshotHandle,
+    version: &[Seen],
+    into: &mut [TextChange],
+) -> Answer
+    ensures answer { IsVersionAnswerInside snapshot.old.inside (map entry version.now)
+        (λ h. edits_answer h (map entry version.now) (length into.old)) result }
+    ensures written { IsRead result → into.new
+        ≡ over (edits_inside snapshot.old.inside (map entry version.now)) into.old }
+    ensures kept { snapshot.new.inside ≡ snapshot.old.inside }
+{
+    edits_since(alloc, snapshot, version, into)
 }
 
 /// Writes where a text stands, in bytes, each place once. The answer has the number of places. Linear in the text.
