@@ -3,7 +3,8 @@
 #
 #     tools/c.sh          the header, the archive, a shared object, both examples
 #     tools/c.sh --hard   and each call while each of its allocations fails in turn, both programs under valgrind and with
-#                         the address sanitizer, and 100,000 random calls from Python
+#                         the address sanitizer, 100,000 random calls from Python, and 1,000 random sessions beside
+#                         `zedbuf replay`, if crates/zedbuf is built or PROGRAM names the program
 #
 # Wants gcc and python3, and for --hard valgrind. What is built lies in build/c.
 set -euo pipefail
@@ -37,5 +38,11 @@ if [ "${1-}" = --hard ]; then
     gcc "${flags[@]}" -fsanitize=address "$top/examples/c/refused.c" "$archive" "$heap" -Wl,--wrap=malloc,--wrap=realloc -o "$build/refused.asan"
     "$build/refused.asan" >/dev/null
     ZEDBUF=$build/libzedbuf.so python3 "$top/tools/c_random.py" 100000
+    program=${PROGRAM:-$top/crates/zedbuf/out/zedbuf}
+    if [ -x "$program" ]; then
+        ZEDBUF=$build/libzedbuf.so python3 "$top/tools/c_sessions.py" "$program" 1000
+    else
+        echo "c.sh: no program $program, so sessions are not compared: name it in PROGRAM"
+    fi
     echo "c.sh: no allocation that fails leaves a text changed, and valgrind and the sanitizer find nothing"
 fi
