@@ -7,4 +7,7 @@ pub mod Answering
 pub mod Followed
 pub mod Versions
 pub mod Crossing
+pub mod Faultless
+pub mod Parting
+pub mod Gathered
 mod Rows

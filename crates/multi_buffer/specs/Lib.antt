@@ -8,3 +8,5 @@ pub mod Found
 pub mod Following
 pub mod Breaks
 pub mod Here
+pub mod Splits
+pub mod Groups
