@@ -10,4 +10,10 @@ pub mod Crossing
 pub mod Faultless
 pub mod Parting
 pub mod Gathered
+pub mod Replacing
+pub mod Owned
+pub mod Grouped
+pub mod Kept
+pub mod Around
+pub mod Through
 mod Rows

@@ -10,3 +10,4 @@ pub mod Breaks
 pub mod Here
 pub mod Splits
 pub mod Groups
+pub mod Edits

@@ -32,7 +32,7 @@ mod texts;
 
 pub use excerpt::Excerpt;
 pub use faults::{PushFault, SplitFault};
-pub use laws::places_come_back;
+pub use laws::{edits_replace, places_come_back};
 pub use lengths::Lengths;
 pub use multi::MultiBuffer;
 pub use op_model::OutOfMemory;
