@@ -16,4 +16,5 @@ pub mod Grouped
 pub mod Kept
 pub mod Around
 pub mod Through
+pub mod Rooms
 mod Rows

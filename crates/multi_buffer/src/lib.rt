@@ -25,6 +25,7 @@ mod multi;
 mod parts;
 mod places;
 mod pushing;
+mod rope_text;
 mod source;
 mod splitting;
 mod syncing;
@@ -38,6 +39,7 @@ pub use multi::MultiBuffer;
 pub use op_model::OutOfMemory;
 pub use parts::BufferPieces;
 pub use places::Place;
+pub use rope_chunks::Rope;
 pub use source::Source;
 pub use text_buffer::Snapshot;
 
