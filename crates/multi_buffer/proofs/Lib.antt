@@ -7,4 +7,14 @@ pub mod Answering
 pub mod Followed
 pub mod Versions
 pub mod Crossing
+pub mod Faultless
+pub mod Parting
+pub mod Gathered
+pub mod Replacing
+pub mod Owned
+pub mod Grouped
+pub mod Kept
+pub mod Around
+pub mod Through
+pub mod Rooms
 mod Rows

@@ -23,7 +23,7 @@ module _ (ss : List Source) where
   pub excerpt_is : (x : Excerpt) → IsSynced ss x → IsExcerpt (history_of x.buffer ss) x
   excerpt_is x i = in_history (source_of x.buffer ss) x i
 
-  excerpt_count : (x : Excerpt) → IsSynced ss x → length (excerpt_text ss x) ≡ size x
+  pub excerpt_count : (x : Excerpt) → IsSynced ss x → length (excerpt_text ss x) ≡ size x
   excerpt_count x i =
       let e = excerpt_is x i in
       slice_count (text (history_of x.buffer ss)) x.start x.end (boundary_within (text (history_of x.buffer ss)) x.end e.end)

@@ -8,3 +8,6 @@ pub mod Found
 pub mod Following
 pub mod Breaks
 pub mod Here
+pub mod Splits
+pub mod Groups
+pub mod Edits

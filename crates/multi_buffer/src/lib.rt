@@ -17,23 +17,29 @@
 mod excerpt;
 mod excerpts;
 mod faults;
+mod grouping;
 mod laws;
 mod lengths;
 mod making;
 mod multi;
+mod parts;
 mod places;
 mod pushing;
+mod rope_text;
 mod source;
+mod splitting;
 mod syncing;
 mod texts;
 
 pub use excerpt::Excerpt;
-pub use faults::PushFault;
-pub use laws::places_come_back;
+pub use faults::{PushFault, SplitFault};
+pub use laws::{edits_replace, places_come_back};
 pub use lengths::Lengths;
 pub use multi::MultiBuffer;
 pub use op_model::OutOfMemory;
+pub use parts::BufferPieces;
 pub use places::Place;
+pub use rope_chunks::Rope;
 pub use source::Source;
 pub use text_buffer::Snapshot;
 
