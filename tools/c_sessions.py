@@ -73,6 +73,7 @@ class Session:
             return
         self.made.append((stamp, self.buffers[replica].record()))
         self.report.append(f"{len(self.made)}: {stamp[0]}.{stamp[1]}")
+        self.buffers[replica].settle()
 
     def give(self, replica, number):
         self.lines.append(["give", replica, number])
@@ -82,8 +83,8 @@ class Session:
             return
         stamp, record = self.made[number - 1]
         buffer = self.buffers[replica]
-        waited = stamp in buffer.waiting()
-        applied, _ = buffer.take(record)
+        before, waited = buffer.settle()[0], stamp in buffer.waiting()
+        applied = buffer.take(record)[0] - before
         # the report also says what a waiting operation waits for, which is left out of the comparison
         waits = stamp in buffer.waiting() and not waited
         self.report.append(head + (f"applied {applied}" if applied else "waits" if waits else "repeat"))
