@@ -1,29 +1,36 @@
 -- What an editor asks of the workers beside it, line by line.
-use Rattle.std.proofs.Common.{◌≡◌, ℕ, zero, suc, ◌+◌, ◌<◌, ◌≤◌, ◌==◌, Bool, true, cond, not, List, [], ◌∷◌, ◌++◌, length, get_or, slice_index_or, slice_set, nat_lt, Option, None, Some, Result, Ok, Err, OnOk, refl, sym, ap, ap₂, ◌∙◌, subst, arith, append_assoc, append-nil}
+use Rattle.std.proofs.Common.{◌≡◌, ℕ, zero, suc, ◌+◌, ◌<◌, ◌≤◌, ◌==◌, Bool, true, cond, not, List, [], ◌∷◌, ◌++◌, length, map, get_or, slice_index_or, slice_set, nat_lt, Option, None, Some, refl, sym, ap, ap₂, ◌∙◌, subst, arith, append_assoc, append-nil}
 use Rattle.std.specs.List.{AllZip, position}
 use Rattle.std.proofs.lemmas.Bool.{ltb-true}
 use Rattle.std.proofs.lemmas.Option.{cond_some}
 use Rattle.std.proofs.lemmas.List.{length-append, length-map, map-append}
+use Rattle.std.proofs.lemmas.List.Sums.{sum_by-cons}
 use Rattle.std.proofs.lemmas.Slice.Zip.{AllZip-long}
 use Rattle.op_model.specs.declared.operation.Operation.{Operation}
 use Rattle.text_buffer.specs.Buffer.{BufferState}
 use Rattle.text_buffer.specs.Document.{IsFront}
 use Rattle.text_buffer.proofs.Fronts.{front_itself, front_trans}
-use Rattle.session_lines.specs.Session.{is_query, query_count}
+use Rattle.session_lines.specs.Session as old
 use Rattle.session_lines.specs.declared.session.SessionLine.{SessionLine}
 use Rattle.session_lines.specs.declared.session.SessionLine.TheVariants as line
-use Rattle.session_lines.proofs.Queries.{none_asked, count_cons}
+use Rattle.session_lines.proofs.Queries.{none_asked}
+use Rattle.session_more.specs.Lines.{is_query, query_count}
+use Rattle.session_more.specs.declared.report.MoreReport.TheVariants.{Plain}
+use Rattle.session_more.specs.declared.session.MoreLine.{MoreLine}
+use Rattle.session_more.specs.declared.session.MoreLine.TheVariants as more
 use Rattle.query_workers.specs.Asks.{Ask}
 use Rattle.query_dispatch.specs.Dealt.{HasAsked, pairs_in}
 use Rattle.query_dispatch.specs.Published.{AreLevel, columns, published_lists, published_of, rows_of}
 use Rattle.query_dispatch.specs.States.{DispatcherState, PublishersState}
-use Rattle.session_replay.specs.Work.{State, buffer_of, events, step}
-use Rattle.session_replay.specs.Queries.{AskedQuery, queries_from, query_at, query_of, query_with, question_of}
-use Rattle.session_replay.specs.Beside.{IsAsking, KeepsEnds, ask_among, asks_among, histories, index_among}
-use Rattle.session_replay.specs.declared.queries.Question.{Question}
-use Rattle.session_replay.proofs.Buffers.{found, not_found}
-use Rattle.session_replay.specs.Later.{AllGrow, Grows}
-use Rattle.session_replay.proofs.Growth.{step_grows}
+use Rattle.session_work.specs.Work.{State, buffer_of, events, step, histories}
+use Rattle.session_work.specs.MoreQueries.{more_queries_from, more_query_at, more_question_of}
+use Rattle.session_work.specs.MoreWork.{MoreState, more_events, more_step}
+use Rattle.session_work.specs.Queries.{AskedQuery, query_at, query_of, query_with, question_of}
+use Rattle.session_replay.specs.Beside.{IsAsking, KeepsEnds, ask_among, asks_among, index_among}
+use Rattle.session_work.specs.declared.queries.Question.{Question}
+use Rattle.session_work.proofs.Buffers.{found}
+use Rattle.session_work.specs.Later.{AllGrow, Grows}
+use Rattle.session_work.proofs.Growth.{more_step_grows}
 
 -- what asks query n of the replica at place i
 abbrev pub one_ask : ℕ → ℕ → Question → List Operation → Ask Question
@@ -101,7 +108,7 @@ one_of : (q r : ℕ) (ask : Question) (o : Option BufferState) → length (query
 one_of q r ask None = let le : 0 ≤ 1 = omega arith in le
 one_of q r ask (Some b) = let le : 1 ≤ 1 = omega arith in le
 
-pub few_at : (q : ℕ) (l : SessionLine) (s : State) → length (query_at q l s) ≤ cond (is_query l) 1 0
+few_at : (q : ℕ) (l : SessionLine) (s : State) → length (query_at q l s) ≤ cond (old.is_query l) 1 0
 few_at q (line.Edit r ps) s = none_asked
 few_at q (line.Undo r ms) s = none_asked
 few_at q (line.Op o) s = none_asked
@@ -117,8 +124,14 @@ few_at q (line.Point r o) s = one_of q r _ (buffer_of r s.buffers)
 few_at q (line.Offset r k c) s = one_of q r _ (buffer_of r s.buffers)
 few_at q (line.Reopen r) s = none_asked
 
+pub few_more : (q : ℕ) (l : MoreLine) (s : MoreState) → length (more_query_at q l s) ≤ cond (is_query l) 1 0
+few_more q (more.Plain l) s = few_at q l s.plain
+few_more q (more.Select r name rs) s = none_asked
+few_more q (more.Share r name) s = none_asked
+few_more q (more.Selected r a) s = none_asked
+
 -- a line that asks is a query
-pub is_asked : (l : SessionLine) (a : ℕ × Question) → Some a ≡ question_of l → is_query l ≡ true
+is_asked : (l : SessionLine) (a : ℕ × Question) → Some a ≡ question_of l → old.is_query l ≡ true
 is_asked (line.Edit r ps) a e = absurd (cc e)
 is_asked (line.Undo r ms) a e = absurd (cc e)
 is_asked (line.Op o) a e = absurd (cc e)
@@ -134,79 +147,83 @@ is_asked (line.Point r o) a e = refl
 is_asked (line.Offset r k c) a e = refl
 is_asked (line.Reopen r) a e = absurd (cc e)
 
-pub asks_count : (l : SessionLine) (a : ℕ × Question) → Some a ≡ question_of l → query_count (l ∷ []) ≡ 1
-asks_count l a e = count_cons l [] ∙ ap (λ (b : Bool). cond b 1 0 + query_count []) (is_asked l a e)
+more_asked : (l : MoreLine) (a : ℕ × Question) → Some a ≡ more_question_of l → is_query l ≡ true
+more_asked (more.Plain l) a e = is_asked l a e
+more_asked (more.Select r name rs) a e = absurd (cc e)
+more_asked (more.Share r name) a e = absurd (cc e)
+more_asked (more.Selected r b) a e = absurd (cc e)
+
+pub count_more : (l : MoreLine) (ls : List MoreLine) → query_count (l ∷ ls) ≡ cond (is_query l) 1 0 + query_count ls
+count_more l ls = sum_by-cons (λ (k : MoreLine). cond (is_query k) 1 0) l ls
+
+pub asks_count : (l : MoreLine) (a : ℕ × Question) → Some a ≡ more_question_of l → query_count (l ∷ []) ≡ 1
+asks_count l a e = count_more l [] ∙ ap (λ (b : Bool). cond b 1 0 + query_count []) (more_asked l a e)
 
 -- ---- an editor on its way
 
 -- where it had asked these before lines that it works, and works the rest of them now
-pub record Leads (ls : List SessionLine) (s0 : State) (asks : List (Ask Question)) (rest : List SessionLine) (s : State) (d : DispatcherState Question) (p : PublishersState) : Type 0 where
+pub record Leads (ls : List MoreLine) (s0 : MoreState) (asks : List (Ask Question)) (rest : List MoreLine) (s : MoreState) (d : DispatcherState Question) (p : PublishersState) : Type 0 where
   pub more : List AskedQuery
-  pub asking : IsAsking s.buffers (asks ++ asks_among s0.buffers more) d p
-  pub whole : more ++ queries_from (length asks + length more + 1) rest s ≡ queries_from (length asks + 1) ls s0
+  pub asking : IsAsking s.plain.buffers (asks ++ asks_among s0.plain.buffers more) d p
+  pub whole : more ++ more_queries_from (length asks + length more + 1) rest s ≡ more_queries_from (length asks + 1) ls s0
   pub room : length asks + length more + query_count rest ≤ d.limit
 
 count_all : (bs : List BufferState) (asks : List (Ask Question)) (more : List AskedQuery) → length (asks ++ asks_among bs more) ≡ length asks + length more
 count_all bs asks more = omega (arith, length-append asks (asks_among bs more), length-map more (ask_among bs))
 
-pub leads_first : (ls : List SessionLine) (s : State) (asks : List (Ask Question)) (d : DispatcherState Question) (p : PublishersState) → IsAsking s.buffers asks d p → d.count + query_count ls ≤ d.limit
+pub leads_first : (ls : List MoreLine) (s : MoreState) (asks : List (Ask Question)) (d : DispatcherState Question) (p : PublishersState) → IsAsking s.plain.buffers asks d p → d.count + query_count ls ≤ d.limit
     → Leads ls s asks ls s d p
 leads_first ls s asks d p a room =
     let same : length asks + 0 + 1 ≡ length asks + 1 = omega arith in
     let fits : length asks + 0 + query_count ls ≤ d.limit = omega (arith, room, a.asked.count) in record {
       more = [];
-      asking = subst (λ (ks : List (Ask Question)). IsAsking s.buffers ks d p) (sym (append-nil asks)) a;
-      whole = ap (λ (k : ℕ). queries_from k ls s) same;
+      asking = subst (λ (ks : List (Ask Question)). IsAsking s.plain.buffers ks d p) (sym (append-nil asks)) a;
+      whole = ap (λ (k : ℕ). more_queries_from k ls s) same;
       room = fits;
     }
 
-module _ (ls : List SessionLine) (s0 : State) (asks : List (Ask Question)) (left : List SessionLine) (next : SessionLine) (rest : List SessionLine) (s : State) (d : DispatcherState Question) (p : PublishersState)
+module _ (ls : List MoreLine) (s0 : MoreState) (asks : List (Ask Question)) (left : List MoreLine) (next : MoreLine) (rest : List MoreLine) (s : MoreState) (d : DispatcherState Question) (p : PublishersState)
     (splits : left ≡ next ∷ rest) (l : Leads ls s0 asks left s d p) where
   -- the room that is left for the line
   pub room_for : d.count + query_count (next ∷ []) ≤ d.limit
   room_for =
-      let split : query_count left ≡ cond (is_query next) 1 0 + query_count rest = ap query_count splits ∙ count_cons next rest in
-      let one : query_count (next ∷ []) ≡ cond (is_query next) 1 0 + query_count [] = count_cons next [] in
-      omega (arith, l.room, split, one, l.asking.asked.count, count_all s0.buffers asks l.more)
+      let split : query_count left ≡ cond (is_query next) 1 0 + query_count rest = ap query_count splits ∙ count_more next rest in
+      let one : query_count (next ∷ []) ≡ cond (is_query next) 1 0 + query_count [] = count_more next [] in
+      omega (arith, l.room, split, one, l.asking.asked.count, count_all s0.plain.buffers asks l.more)
 
-  pub leads_more : (t : State) (e : DispatcherState Question) (q : PublishersState) → AllGrow s0.buffers s.buffers → t ≡ step next s → e.limit ≡ d.limit
-      → ((ks : List (Ask Question)) → IsAsking s.buffers ks d p → IsAsking t.buffers (ks ++ asks_among s.buffers (query_at (length ks + 1) next s)) e q) → Leads ls s0 asks rest t e q
+  pub leads_more : (t : MoreState) (e : DispatcherState Question) (q : PublishersState) → AllGrow s0.plain.buffers s.plain.buffers → t ≡ more_step next s → e.limit ≡ d.limit
+      → ((ks : List (Ask Question)) → IsAsking s.plain.buffers ks d p → IsAsking t.plain.buffers (ks ++ asks_among s.plain.buffers (more_query_at (length ks + 1) next s)) e q) → Leads ls s0 asks rest t e q
   leads_more t e q g is limit h =
-      let ks : List (Ask Question) = asks ++ asks_among s0.buffers l.more in
-      let n : length ks ≡ length asks + length l.more = count_all s0.buffers asks l.more in
-      let qs : List AskedQuery = query_at (length asks + length l.more + 1) next s in
-      let same : asks_among s.buffers (query_at (length ks + 1) next s) ≡ asks_among s0.buffers qs =
-      ap (λ (k : ℕ). asks_among s.buffers (query_at (k + 1) next s)) n ∙ same_asks s0.buffers s.buffers qs g in
-      let all : ks ++ asks_among s.buffers (query_at (length ks + 1) next s) ≡ asks ++ asks_among s0.buffers (l.more ++ qs) =
-      ap (λ (js : List (Ask Question)). ks ++ js) same ∙ (append_assoc asks (asks_among s0.buffers l.more) (asks_among s0.buffers qs)
-      ∙ ap (λ (js : List (Ask Question)). asks ++ js) (sym (map-append (ask_among s0.buffers) l.more qs))) in
+      let ks : List (Ask Question) = asks ++ asks_among s0.plain.buffers l.more in
+      let n : length ks ≡ length asks + length l.more = count_all s0.plain.buffers asks l.more in
+      let qs : List AskedQuery = more_query_at (length asks + length l.more + 1) next s in
+      let same : asks_among s.plain.buffers (more_query_at (length ks + 1) next s) ≡ asks_among s0.plain.buffers qs =
+      ap (λ (k : ℕ). asks_among s.plain.buffers (more_query_at (k + 1) next s)) n ∙ same_asks s0.plain.buffers s.plain.buffers qs g in
+      let all : ks ++ asks_among s.plain.buffers (more_query_at (length ks + 1) next s) ≡ asks ++ asks_among s0.plain.buffers (l.more ++ qs) =
+      ap (λ (js : List (Ask Question)). ks ++ js) same ∙ (append_assoc asks (asks_among s0.plain.buffers l.more) (asks_among s0.plain.buffers qs)
+      ∙ ap (λ (js : List (Ask Question)). asks ++ js) (sym (map-append (ask_among s0.plain.buffers) l.more qs))) in
       let count : length asks + length (l.more ++ qs) + 1 ≡ length asks + length l.more + 1 + length qs = omega (arith, length-append l.more qs) in
-      let split : query_count left ≡ cond (is_query next) 1 0 + query_count rest = ap query_count splits ∙ count_cons next rest in
+      let split : query_count left ≡ cond (is_query next) 1 0 + query_count rest = ap query_count splits ∙ count_more next rest in
       record {
         more = l.more ++ qs;
-        asking = subst (λ (js : List (Ask Question)). IsAsking t.buffers js e q) all (h ks l.asking);
+        asking = subst (λ (js : List (Ask Question)). IsAsking t.plain.buffers js e q) all (h ks l.asking);
         whole =
-            append_assoc l.more qs (queries_from (length asks + length (l.more ++ qs) + 1) rest t)
-            ∙ (ap (λ (m : ℕ). l.more ++ (qs ++ queries_from m rest t)) count
-            ∙ (ap (λ (u : State). l.more ++ (qs ++ queries_from (length asks + length l.more + 1 + length qs) rest u)) is
-            ∙ (ap (λ (k : List SessionLine). l.more ++ queries_from (length asks + length l.more + 1) k s) (sym splits) ∙ l.whole)));
-        room = omega (arith, l.room, split, limit, length-append l.more qs, few_at (length asks + length l.more + 1) next s);
+            append_assoc l.more qs (more_queries_from (length asks + length (l.more ++ qs) + 1) rest t)
+            ∙ (ap (λ (m : ℕ). l.more ++ (qs ++ more_queries_from m rest t)) count
+            ∙ (ap (λ (u : MoreState). l.more ++ (qs ++ more_queries_from (length asks + length l.more + 1 + length qs) rest u)) is
+            ∙ (ap (λ (k : List MoreLine). l.more ++ more_queries_from (length asks + length l.more + 1) k s) (sym splits) ∙ l.whole)));
+        room = omega (arith, l.room, split, limit, length-append l.more qs, few_more (length asks + length l.more + 1) next s);
       }
 
 -- no line is left
-pub leads_last : (ls : List SessionLine) (s0 : State) (asks : List (Ask Question)) (left : List SessionLine) (s : State) (d : DispatcherState Question) (p : PublishersState) → left ≡ []
-    → Leads ls s0 asks left s d p → IsAsking s.buffers (asks ++ asks_among s0.buffers (queries_from (length asks + 1) ls s0)) d p
+pub leads_last : (ls : List MoreLine) (s0 : MoreState) (asks : List (Ask Question)) (left : List MoreLine) (s : MoreState) (d : DispatcherState Question) (p : PublishersState) → left ≡ []
+    → Leads ls s0 asks left s d p → IsAsking s.plain.buffers (asks ++ asks_among s0.plain.buffers (more_queries_from (length asks + 1) ls s0)) d p
 leads_last ls s0 asks left s d p none l =
-    let unasked : queries_from (length asks + length l.more + 1) left s ≡ [] = ap (λ (k : List SessionLine). queries_from (length asks + length l.more + 1) k s) none in
-    let all : l.more ≡ queries_from (length asks + 1) ls s0 = sym (append-nil l.more) ∙ (ap (λ (qs : List AskedQuery). l.more ++ qs) (sym unasked) ∙ l.whole) in
-    subst (λ (qs : List AskedQuery). IsAsking s.buffers (asks ++ asks_among s0.buffers qs) d p) all l.asking
+    let unasked : more_queries_from (length asks + length l.more + 1) left s ≡ [] = ap (λ (k : List MoreLine). more_queries_from (length asks + length l.more + 1) k s) none in
+    let all : l.more ≡ more_queries_from (length asks + 1) ls s0 = sym (append-nil l.more) ∙ (ap (λ (qs : List AskedQuery). l.more ++ qs) (sym unasked) ∙ l.whole) in
+    subst (λ (qs : List AskedQuery). IsAsking s.plain.buffers (asks ++ asks_among s0.plain.buffers qs) d p) all l.asking
 
 -- ---- one line
-
--- what holds of an answer
-pub on_any : {X Y : Type 0} (r : Result X Y) (P : Type 0) → P → OnOk r P
-on_any (Ok x) P p = p
-on_any (Err y) P p = tt
 
 -- the line asks nothing
 pub nothing_asked : (bs : List BufferState) (asks : List (Ask Question)) (d : DispatcherState Question) (p : PublishersState) (qs : List AskedQuery) → qs ≡ [] → IsAsking bs asks d p → IsAsking bs (asks ++ asks_among bs qs) d p
@@ -214,7 +231,7 @@ nothing_asked bs asks d p qs e a =
     subst (λ (ks : List (Ask Question)). IsAsking bs ks d p) (sym (ap (λ (js : List AskedQuery). asks ++ asks_among bs js) e ∙ append-nil asks)) a
 
 -- a line that asks reports no event and changes nothing
-pub asks_only : (l : SessionLine) (a : ℕ × Question) → Some a ≡ question_of l → (s : State) → (events l s ≡ []) × (step l s ≡ s)
+asks_only : (l : SessionLine) (a : ℕ × Question) → Some a ≡ question_of l → (s : State) → (events l s ≡ []) × (step l s ≡ s)
 asks_only (line.Edit r ps) a e s = absurd (cc e)
 asks_only (line.Undo r ms) a e s = absurd (cc e)
 asks_only (line.Op o) a e s = absurd (cc e)
@@ -230,11 +247,17 @@ asks_only (line.Point r o) a e s = (refl, refl)
 asks_only (line.Offset r k c) a e s = (refl, refl)
 asks_only (line.Reopen r) a e s = absurd (cc e)
 
-pub no_question : (q : ℕ) (l : SessionLine) (s : State) → None ≡ question_of l → query_at q l s ≡ []
-no_question q l s e = ap (query_with q s) (sym e)
+pub more_asks_only : (l : MoreLine) (a : ℕ × Question) → Some a ≡ more_question_of l → (s : MoreState) → (more_events l s ≡ []) × (more_step l s ≡ s)
+more_asks_only (more.Plain l) a e s =
+    let none = asks_only l a e s.plain in
+    let with_plain : State → MoreState = λ u. record s { plain = u } in
+    (ap (map Plain) none.0, ap with_plain none.1)
+more_asks_only (more.Select r name rs) a e s = absurd (cc e)
+more_asks_only (more.Share r name) a e s = absurd (cc e)
+more_asks_only (more.Selected r b) a e s = absurd (cc e)
 
-pub no_replica : (q : ℕ) (l : SessionLine) (s : State) (r : ℕ) (ask : Question) → Some (r, ask) ≡ question_of l → None ≡ position (λ (b : BufferState). b.replica == r) s.buffers → query_at q l s ≡ []
-no_replica q l s r ask e n = ap (query_with q s) (sym e) ∙ ap (query_of q r ask) (not_found r (λ (b : BufferState). b) s.buffers n).0
+pub no_question : (q : ℕ) (l : MoreLine) (s : MoreState) → None ≡ more_question_of l → more_query_at q l s ≡ []
+no_question q l s e = ap (query_with q s.plain) (sym e)
 
 -- the line asks a replica, and is put
 module _ (bs : List BufferState) (asks : List (Ask Question)) (d e : DispatcherState Question) (p q : PublishersState) (i : ℕ) (x : BufferState) (qs : List AskedQuery) (ask : Question) (h : List Operation) where
@@ -259,9 +282,9 @@ pub asking_grows : (bs cs : List BufferState) (asks : List (Ask Question)) (d : 
 asking_grows bs cs asks d p g a =
     record { few = omega (arith, a.few, AllZip-long Grows bs cs g); asked = a.asked; level = a.level; tied = a.tied; fronts = fronts_grow (published_lists p) bs cs a.fronts g }
 
-pub asking_steps : (l : SessionLine) (s t : State) (asks : List (Ask Question)) (d : DispatcherState Question) (p : PublishersState) → t ≡ step l s → IsAsking s.buffers asks d p → IsAsking t.buffers asks d p
+pub asking_steps : (l : MoreLine) (s t : MoreState) (asks : List (Ask Question)) (d : DispatcherState Question) (p : PublishersState) → t ≡ more_step l s → IsAsking s.plain.buffers asks d p → IsAsking t.plain.buffers asks d p
 asking_steps l s t asks d p is a =
-    subst (λ (u : State). IsAsking u.buffers asks d p) (sym is) (asking_grows s.buffers (step l s).buffers asks d p (step_grows l s) a)
+    subst (λ (u : MoreState). IsAsking u.plain.buffers asks d p) (sym is) (asking_grows s.plain.buffers (more_step l s).plain.buffers asks d p (more_step_grows l s) a)
 
 -- ---- the queues and the pairs
 

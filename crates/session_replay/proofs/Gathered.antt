@@ -11,16 +11,18 @@ use Rattle.text_buffer.proofs.Fronts.{front_length}
 use Rattle.session_lines.specs.declared.report.QueryAnswer.{QueryAnswer}
 use Rattle.session_lines.specs.declared.report.Report.{Report}
 use Rattle.session_lines.specs.declared.report.Report.TheVariants as report
-use Rattle.session_lines.specs.declared.session.Session.{Session}
+use Rattle.session_more.specs.declared.session.MoreSession.{MoreSession}
 use Rattle.query_workers.specs.Asks.{worker_of}
 use Rattle.query_workers.specs.declared.query.Answer.{Answer}
 use Rattle.query_dispatch.specs.Final.{AreGathered, IsFinal, IsPast, NeverFalls}
-use Rattle.session_replay.specs.Work.{State, applied_count, buffer_of}
-use Rattle.session_replay.specs.Queries as replies
-use Rattle.session_replay.specs.Queries.{AreReplies, AskedQuery, IsWithin, Reply, end_of, history_at_end, history_or_empty, plain_answer, queries_of, reply_line}
-use Rattle.session_replay.specs.Beside.{ask_among, asks_among, histories, line_of, index_among}
-use Rattle.session_replay.specs.declared.queries.Question.{Question}
-use Rattle.session_replay.specs.Later.{AllGrow}
+use Rattle.session_work.specs.Work.{State, applied_count, buffer_of, histories}
+use Rattle.session_replay.specs.Replies as replies
+use Rattle.session_replay.specs.Replies.{AreReplies, IsWithin, Reply, history_at_end, history_or_empty, reply_line}
+use Rattle.session_work.specs.MoreQueries.{more_queries_of, plain_end_of}
+use Rattle.session_work.specs.Queries.{AskedQuery, plain_answer}
+use Rattle.session_replay.specs.Beside.{ask_among, asks_among, line_of, index_among}
+use Rattle.session_work.specs.declared.queries.Question.{Question}
+use Rattle.session_work.specs.Later.{AllGrow}
 use Rattle.session_replay.proofs.Asking.{same_place}
 use Rattle.session_replay.proofs.Replies.{IsPlaced, front_count, front_taken, placed}
 
@@ -148,15 +150,15 @@ module _ (bs : List BufferState) (end : State) (g : AllGrow bs end.buffers) wher
 
 -- ---- the replies of a session
 
-module _ (s : Session) (workers : ℕ) (some : 1 ≤ workers) (bs : List BufferState) (g : AllGrow bs (end_of s).buffers) (xs : List Made)
-    (t : AreGathered plain_answer workers (histories (end_of s).buffers) (asks_among bs (queries_of s)) xs) where
-  pub gathered : AreReplies s workers (replies_to bs (end_of s) g xs (queries_of s))
+module _ (s : MoreSession) (workers : ℕ) (some : 1 ≤ workers) (bs : List BufferState) (g : AllGrow bs (plain_end_of s).buffers) (xs : List Made)
+    (t : AreGathered plain_answer workers (histories (plain_end_of s).buffers) (asks_among bs (more_queries_of s)) xs) where
+  pub gathered : AreReplies s workers (replies_to bs (plain_end_of s) g xs (more_queries_of s))
   gathered = record {
-    queries = their_queries bs (end_of s) g xs (queries_of s) t.each;
-    within = all_within bs (end_of s) g xs (queries_of s) t.each (placed s);
+    queries = their_queries bs (plain_end_of s) g xs (more_queries_of s) t.each;
+    within = all_within bs (plain_end_of s) g xs (more_queries_of s) t.each (placed s);
     on_the_spot = λ z. absurd (omega (arith, z, some));
-    never_falls = never_falls bs (end_of s) g workers xs (queries_of s) t.each t.never_falls;
+    never_falls = never_falls bs (plain_end_of s) g workers xs (more_queries_of s) t.each t.never_falls;
   }
 
-  pub gathered_lines : map line_of xs ≡ map (reply_line (end_of s)) (replies_to bs (end_of s) g xs (queries_of s))
-  gathered_lines = all_lines bs (end_of s) g xs (queries_of s) t.each (placed s)
+  pub gathered_lines : map line_of xs ≡ map (reply_line (plain_end_of s)) (replies_to bs (plain_end_of s) g xs (more_queries_of s))
+  gathered_lines = all_lines bs (plain_end_of s) g xs (more_queries_of s) t.each (placed s)

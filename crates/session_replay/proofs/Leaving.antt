@@ -13,10 +13,11 @@ use Rattle.query_dispatch.proofs.Places.{sizes_of}
 use Rattle.text_buffer.specs.Buffer.{BufferState}
 use Rattle.text_buffer.specs.Document.{IsFront}
 use Rattle.session_lines.specs.declared.report.QueryAnswer.{QueryAnswer}
-use Rattle.session_replay.specs.Queries.{plain_answer}
-use Rattle.session_replay.specs.Beside.{HasLeft, IsAsking, histories}
+use Rattle.session_work.specs.Queries.{plain_answer}
+use Rattle.session_work.specs.Work.{histories}
+use Rattle.session_replay.specs.Beside.{HasLeft, IsAsking}
 use Rattle.session_replay.specs.declared.beside.Edited.{Edited}
-use Rattle.session_replay.specs.declared.queries.Question.{Question}
+use Rattle.session_work.specs.declared.queries.Question.{Question}
 
 -- two facts of what was given, as one
 pub both : {X Y : Type 0} (r : Result X Y) (P Q R : X → Type 0) → ((x : X) → P x → Q x → R x) → IfOk r P → IfOk r Q → IfOk r R

@@ -2,46 +2,48 @@
 use Rattle.std.proofs.Common.{◌≡◌, ℕ, ◌+◌, ◌<◌, ◌≤◌, ◌⊎◌, inl, inr, List, length, refl, sym, ap, ◌∙◌, subst, cond, Bool, true, false, nat_lt, arith, Option, Result, Ok, Err}
 use Rattle.std.proofs.lemmas.Bool.{lt-ltb, le-ltb, ltb-true, ltb-false}
 use Rattle.session_lines.specs.Cut.{lines_of}
-use Rattle.session_lines.specs.Session.{session_of_text, lines_limit}
+use Rattle.session_lines.specs.Session.{lines_limit}
 use Rattle.session_lines.specs.Words.{bad_line, many_line}
-use Rattle.session_lines.specs.declared.session.Session.{Session}
 use Rattle.session_lines.specs.declared.fault.Word.{Word}
 use Rattle.session_lines.specs.declared.fault.DecodeFault.{DecodeFault}
 use Rattle.session_lines.specs.declared.fault.DecodeFault.TheVariants.{Lines, Bad, OutOfMemory}
-use Rattle.session_lines.proofs.Faults.{too_many, never_memory}
+use Rattle.session_more.specs.Decoding.{more_session_of_text}
+use Rattle.session_more.specs.declared.session.MoreSession.{MoreSession}
 use Rattle.session_replay.specs.Causes.{RoseBy}
-use Rattle.session_replay.specs.Traffic.{Had, session_limit}
+use Rattle.session_work.specs.Work.{session_limit}
+use Rattle.session_replay.specs.Traffic.{Had}
 use Rattle.session_replay.specs.Replay.{large_line, migrates, refusal, response_of, response_with, IsNone, IsPrepared, IsReady, IsResponse, IsWritten, RespondsToSource, Writes}
 use Rattle.session_replay.specs.declared.top.Prepared.{Prepared}
 use Rattle.session_replay.specs.declared.top.Prepared.TheVariants as prepared
 use Rattle.command_words.specs.declared.command.Task.{Task}
 use Rattle.session_replay.specs.declared.top.Status.{Status}
 use Rattle.session_replay.specs.declared.top.Status.TheVariants as status
+use Rattle.session_replay.proofs.Decoded.{never_memory, too_many}
 
 -- ---- the answer to an input
 
 pub large_answer : (c : Task) (input : List ℕ) → session_limit < length input → response_of c input ≡ (status.TooLarge, large_line)
 unfolding response_of
-large_answer c input h = ap (λ b. cond b (status.TooLarge, large_line) (response_with c input (session_of_text (migrates c) input))) (lt-ltb session_limit (length input) h)
+large_answer c input h = ap (λ b. cond b (status.TooLarge, large_line) (response_with c input (more_session_of_text (migrates c) input))) (lt-ltb session_limit (length input) h)
 
-small_answer : (c : Task) (input : List ℕ) → length input ≤ session_limit → response_of c input ≡ response_with c input (session_of_text (migrates c) input)
+small_answer : (c : Task) (input : List ℕ) → length input ≤ session_limit → response_of c input ≡ response_with c input (more_session_of_text (migrates c) input)
 unfolding response_of
-small_answer c input le = ap (λ b. cond b (status.TooLarge, large_line) (response_with c input (session_of_text (migrates c) input))) (le-ltb session_limit (length input) le)
+small_answer c input le = ap (λ b. cond b (status.TooLarge, large_line) (response_with c input (more_session_of_text (migrates c) input))) (le-ltb session_limit (length input) le)
 
 -- an input that is no session
-pub refused_answer : (c : Task) (input : List ℕ) (e : DecodeFault) (st : Status) (text : List ℕ) → length input ≤ session_limit → session_of_text (migrates c) input ≡ Err e → refusal e ≡ (st, text) → IsResponse c input st text
+pub refused_answer : (c : Task) (input : List ℕ) (e : DecodeFault) (st : Status) (text : List ℕ) → length input ≤ session_limit → more_session_of_text (migrates c) input ≡ Err e → refusal e ≡ (st, text) → IsResponse c input st text
 refused_answer c input e st text le is r = inr (inr (e, is), small_answer c input le ∙ (ap (response_with c input) is ∙ r))
 
 -- a session within the limit is none of these
-pub not_none : {P : Type 0} (c : Task) (input : List ℕ) (s : Session) → length input ≤ session_limit → session_of_text (migrates c) input ≡ Ok s → IsNone c input → P
+pub not_none : {P : Type 0} (c : Task) (input : List ℕ) (s : MoreSession) → length input ≤ session_limit → more_session_of_text (migrates c) input ≡ Ok s → IsNone c input → P
 not_none c input s le e (inl h) = absurd (omega (arith, h, le))
 not_none c input s le e (inr h) = let f : Ok s ≡ Err h.0 = sym e ∙ h.1 in cc
 
 -- ---- what a status tells
 
 pub record Told (c : Task) (input : List ℕ) (st : Status) (text : List ℕ) : Type 0 where
-  pub done : st ≡ status.Done → (length input ≤ session_limit) × ((s : Session) × (session_of_text (migrates c) input ≡ Ok s) × Writes c input s text)
-  pub session : st ≡ status.Session → (length input ≤ session_limit) × ((n : ℕ) × (w : Word) × (session_of_text (migrates c) input ≡ Err (Bad n w)) × (bad_line n w ≡ text))
+  pub done : st ≡ status.Done → (length input ≤ session_limit) × ((s : MoreSession) × (more_session_of_text (migrates c) input ≡ Ok s) × Writes c input s text)
+  pub session : st ≡ status.Session → (length input ≤ session_limit) × ((n : ℕ) × (w : Word) × (more_session_of_text (migrates c) input ≡ Err (Bad n w)) × (bad_line n w ≡ text))
   pub large : st ≡ status.TooLarge → ((session_limit < length input) × (large_line ≡ text)) ⊎ ((length input ≤ session_limit) × (lines_limit < length (lines_of input)) × (many_line ≡ text))
   pub kinds : (st ≡ status.Done) ⊎ ((st ≡ status.Session) ⊎ (st ≡ status.TooLarge))
 
@@ -54,7 +56,7 @@ first a st t text e = ap (λ p. p.0) e
 second : (a st : Status) (t text : List ℕ) → ◌≡◌ {A = Status × List ℕ} (a, t) (st, text) → t ≡ text
 second a st t text e = ap (λ p. p.1) e
 
-told_by : (c : Task) (input : List ℕ) (b : Bool) (r : Result Session DecodeFault) (st : Status) (text : List ℕ) → IsNone c input → nat_lt session_limit (length input) ≡ b → session_of_text (migrates c) input ≡ r
+told_by : (c : Task) (input : List ℕ) (b : Bool) (r : Result MoreSession DecodeFault) (st : Status) (text : List ℕ) → IsNone c input → nat_lt session_limit (length input) ≡ b → more_session_of_text (migrates c) input ≡ r
     → cond b (status.TooLarge, large_line) (response_with c input r) ≡ (st, text) → Told c input st text
 told_by c input true r st text none l d e =
     let f = first status.TooLarge st large_line text e in record {
@@ -82,7 +84,7 @@ told_by c input false (Err OutOfMemory) st text none l d e = absurd (never_memor
 
 plainly_told : (c : Task) (input : List ℕ) (st : Status) (text : List ℕ) → IsNone c input → response_of c input ≡ (st, text) → Told c input st text
 unfolding response_of
-plainly_told c input st text none e = told_by c input (nat_lt session_limit (length input)) (session_of_text (migrates c) input) st text none refl refl e
+plainly_told c input st text none e = told_by c input (nat_lt session_limit (length input)) (more_session_of_text (migrates c) input) st text none refl refl e
 
 pub told : (c : Task) (input : List ℕ) (st : Status) (text : List ℕ) → IsResponse c input st text → Told c input st text
 told c input st text (inl w) = record {

@@ -12,18 +12,25 @@ use Rattle.op_model.proofs.Elements.{AllPairs-nil}
 use Rattle.text_buffer.specs.Buffer.{BaseText, BufferState}
 use Rattle.text_buffer.specs.Document.{IsFront}
 use Rattle.text_buffer.proofs.Fronts.{front_length, front_trans}
-use Rattle.session_lines.specs.Report.{report_text}
-use Rattle.session_lines.specs.Session.{is_query, query_count}
+use Rattle.session_lines.specs.Session as old
 use Rattle.session_lines.specs.declared.report.Report.{Report}
-use Rattle.session_lines.specs.declared.session.Session.{Session}
 use Rattle.session_lines.specs.declared.session.SessionLine.{SessionLine}
 use Rattle.session_lines.specs.declared.session.SessionLine.TheVariants as line
-use Rattle.session_replay.specs.declared.queries.Question.{Question}
-use Rattle.session_replay.specs.Work.{State, after_all, applied_count, base_of, buffer_of, first_buffer, opening, step}
-use Rattle.session_replay.specs.Queries.{AreReplies, AskedQuery, IsReport, IsWithin, NeverFalls, Reply, answer_line, end_of, history_or_empty, plain_line, queries_from, queries_of, query_at, query_of, query_with, question_of, reply_line, report_of, report_with}
+use Rattle.session_more.specs.Decoding.{headed}
+use Rattle.session_more.specs.Lines.{is_query, query_count}
+use Rattle.session_more.specs.Reports.{more_report_text}
+use Rattle.session_more.specs.declared.session.MoreLine.{MoreLine}
+use Rattle.session_more.specs.declared.session.MoreLine.TheVariants as more
+use Rattle.session_more.specs.declared.session.MoreSession.{MoreSession}
+use Rattle.session_work.specs.declared.queries.Question.{Question}
+use Rattle.session_work.specs.Work.{State, applied_count, base_of, buffer_of, first_buffer}
+use Rattle.session_replay.specs.Replies.{AreReplies, IsReport, IsWithin, NeverFalls, Reply, history_or_empty, reply_line}
+use Rattle.session_work.specs.MoreQueries.{more_queries_from, more_queries_of, more_query_at, more_question_of, more_report_of, more_report_with, plain_end_of}
+use Rattle.session_work.specs.MoreWork.{MoreState, after_all_more, more_opening, more_step}
+use Rattle.session_work.specs.Queries.{AskedQuery, answer_line, plain_line, query_at, query_of, query_with}
 use Rattle.session_replay.specs.Laws.{PlainWithWorkers, PlainWithoutQueries, PlainWithoutWorkers}
-use Rattle.session_replay.specs.Later.{AllGrow}
-use Rattle.session_replay.proofs.Growth.{AreBased, based_grow, based_one, later, lines_grow, step_grows}
+use Rattle.session_work.specs.Later.{AllGrow}
+use Rattle.session_work.proofs.Growth.{AreBased, based_grow, based_one, later, lines_grow, more_step_grows}
 
 -- ---- fronts
 
@@ -54,13 +61,13 @@ module _ (q : ℕ) (s end : State) (g : AllGrow s.buffers end.buffers) (a : AreB
   query_placed None = All-nil (IsPlaced end)
   query_placed (Some (r, ask)) = one_placed r ask (buffer_of r s.buffers) refl
 
-all_placed : (q : ℕ) (ls : List SessionLine) (s : State) → AreBased s.buffers → All (IsPlaced (after_all ls s)) (queries_from q ls s)
-all_placed q [] s a = All-nil (IsPlaced s)
+all_placed : (q : ℕ) (ls : List MoreLine) (s : MoreState) → AreBased s.plain.buffers → All (IsPlaced (after_all_more ls s).plain) (more_queries_from q ls s)
+all_placed q [] s a = All-nil (IsPlaced s.plain)
 all_placed q (l ∷ ls) s a =
-    let end : State = after_all ls (step l s) in
-    let next : ℕ = q + length (query_at q l s) in
-    All-append (IsPlaced end) (query_at q l s) (queries_from next ls (step l s)) (query_placed q s end (lines_grow (l ∷ ls) s) a (question_of l))
-    (all_placed next ls (step l s) (based_grow s.buffers (step l s).buffers (step_grows l s) a))
+    let end : State = (after_all_more ls (more_step l s)).plain in
+    let next : ℕ = q + length (more_query_at q l s) in
+    All-append (IsPlaced end) (more_query_at q l s) (more_queries_from next ls (more_step l s)) (query_placed q s.plain end (lines_grow (l ∷ ls) s) a (more_question_of l))
+    (all_placed next ls (more_step l s) (based_grow s.plain.buffers (more_step l s).plain.buffers (more_step_grows l s) a))
 
 -- ---- a later query of a replica finds no fewer operations
 
@@ -83,20 +90,20 @@ module _ (r : ℕ) (h : List Operation) where
     query_finds None = All-nil (Finds r h)
     query_finds (Some (i, ask)) = one_finds i ask (buffer_of i s.buffers) refl
 
-  all_find : (q : ℕ) (ls : List SessionLine) (s : State) (b : BufferState) → buffer_of r s.buffers ≡ Some b → IsFront h b.history → All (Finds r h) (queries_from q ls s)
+  all_find : (q : ℕ) (ls : List MoreLine) (s : MoreState) (b : BufferState) → buffer_of r s.plain.buffers ≡ Some b → IsFront h b.history → All (Finds r h) (more_queries_from q ls s)
   all_find q [] s b e f = All-nil (Finds r h)
   all_find q (l ∷ ls) s b e f =
-      let n = later r s.buffers (step l s).buffers b (step_grows l s) e in
-      let next : ℕ = q + length (query_at q l s) in
-      All-append (Finds r h) (query_at q l s) (queries_from next ls (step l s)) (query_finds q s b e f (question_of l))
-      (all_find next ls (step l s) n.0 n.1 (front_trans h b.history n.0.history f n.2))
+      let n = later r s.plain.buffers (more_step l s).plain.buffers b (more_step_grows l s) e in
+      let next : ℕ = q + length (more_query_at q l s) in
+      All-append (Finds r h) (more_query_at q l s) (more_queries_from next ls (more_step l s)) (query_finds q s.plain b e f (more_question_of l))
+      (all_find next ls (more_step l s) n.0 n.1 (front_trans h b.history n.0.history f n.2))
 
 abbrev Follows : AskedQuery → AskedQuery → Type 0
 Follows c d = Finds c.replica c.history d
 
-module _ (q next : ℕ) (l : SessionLine) (ls : List SessionLine) (s : State) where
+module _ (q next : ℕ) (l : MoreLine) (ls : List MoreLine) (s : MoreState) where
   abbrev rest : List AskedQuery
-  rest = queries_from next ls (step l s)
+  rest = more_queries_from next ls (more_step l s)
 
   one_pair : (r : ℕ) (ask : Question) (o : Option BufferState) → AllPairs Follows (query_of q r ask o)
   one_pair r ask None = AllPairs-nil Follows
@@ -104,26 +111,27 @@ module _ (q next : ℕ) (l : SessionLine) (ls : List SessionLine) (s : State) wh
       let c : AskedQuery = record { number = q; replica = r; history = b.history; question = ask } in
       AllPairs-cons Follows c [] (All-nil (Follows c)) (AllPairs-nil Follows)
 
-  query_pair : (o : Option (ℕ × Question)) → AllPairs Follows (query_with q s o)
+  query_pair : (o : Option (ℕ × Question)) → AllPairs Follows (query_with q s.plain o)
   query_pair None = AllPairs-nil Follows
-  query_pair (Some (r, ask)) = one_pair r ask (buffer_of r s.buffers)
+  query_pair (Some (r, ask)) = one_pair r ask (buffer_of r s.plain.buffers)
 
-  one_first : (r : ℕ) (ask : Question) (o : Option BufferState) → buffer_of r s.buffers ≡ o → All (λ c. All (Follows c) rest) (query_of q r ask o)
+  one_first : (r : ℕ) (ask : Question) (o : Option BufferState) → buffer_of r s.plain.buffers ≡ o → All (λ c. All (Follows c) rest) (query_of q r ask o)
   one_first r ask None e = All-nil (λ c. All (Follows c) rest)
   one_first r ask (Some b) e =
-      let n = later r s.buffers (step l s).buffers b (step_grows l s) e in
+      let n = later r s.plain.buffers (more_step l s).plain.buffers b (more_step_grows l s) e in
       All-cons (λ c. All (Follows c) rest) (record { number = q; replica = r; history = b.history; question = ask }) []
-      (all_find r b.history next ls (step l s) n.0 n.1 n.2) (All-nil (λ c. All (Follows c) rest))
+      (all_find r b.history next ls (more_step l s) n.0 n.1 n.2) (All-nil (λ c. All (Follows c) rest))
 
-  query_first : (o : Option (ℕ × Question)) → All (λ c. All (Follows c) rest) (query_with q s o)
+  query_first : (o : Option (ℕ × Question)) → All (λ c. All (Follows c) rest) (query_with q s.plain o)
   query_first None = All-nil (λ c. All (Follows c) rest)
-  query_first (Some (r, ask)) = one_first r ask (buffer_of r s.buffers) refl
+  query_first (Some (r, ask)) = one_first r ask (buffer_of r s.plain.buffers) refl
 
-all_follow : (q : ℕ) (ls : List SessionLine) (s : State) → AllPairs Follows (queries_from q ls s)
+all_follow : (q : ℕ) (ls : List MoreLine) (s : MoreState) → AllPairs Follows (more_queries_from q ls s)
 all_follow q [] s = AllPairs-nil Follows
 all_follow q (l ∷ ls) s =
-    let next : ℕ = q + length (query_at q l s) in
-    AllPairs-append Follows (query_at q l s) (queries_from next ls (step l s)) (query_pair q next l ls s (question_of l)) (all_follow next ls (step l s)) (query_first q next l ls s (question_of l))
+    let next : ℕ = q + length (more_query_at q l s) in
+    AllPairs-append Follows (more_query_at q l s) (more_queries_from next ls (more_step l s)) (query_pair q next l ls s (more_question_of l)) (all_follow next ls (more_step l s))
+    (query_first q next l ls s (more_question_of l))
 
 -- ---- replies on the spot
 
@@ -146,16 +154,16 @@ opened_based : (t : BaseText) (rs : List ℕ) → AreBased (map (first_buffer t)
 opened_based t [] = tt
 opened_based t (r ∷ rs) = (omega arith, opened_based t rs)
 
-pub placed : (s : Session) → All (IsPlaced (end_of s)) (queries_of s)
-placed s = all_placed 1 s.lines (opening s) (opened_based (base_of s) s.replicas)
+pub placed : (s : MoreSession) → All (IsPlaced (plain_end_of s)) (more_queries_of s)
+placed s = all_placed 1 s.lines (more_opening s) (opened_based (base_of (headed s)) s.replicas)
 
-spot_replies : (s : Session) (workers : ℕ) → AreReplies s workers (map on_the_spot (queries_of s))
+spot_replies : (s : MoreSession) (workers : ℕ) → AreReplies s workers (map on_the_spot (more_queries_of s))
 spot_replies s workers = record {
-  queries = their_queries (queries_of s);
-  within = All-map (IsWithin (end_of s)) on_the_spot (queries_of s)
-      (All-weaker (IsPlaced (end_of s)) (λ c. IsWithin (end_of s) (on_the_spot c)) (λ c f. (omega arith, front_count c.history (history_or_empty (buffer_of c.replica (end_of s).buffers)) f.0)) (queries_of s) (placed s));
-  on_the_spot = λ z. All-map (λ (p : Reply). p.count ≡ applied_count p.query.history) on_the_spot (queries_of s) (λ k d lt. refl);
-  never_falls = pairs_of workers (queries_of s) (all_follow 1 s.lines (opening s));
+  queries = their_queries (more_queries_of s);
+  within = All-map (IsWithin (plain_end_of s)) on_the_spot (more_queries_of s)
+      (All-weaker (IsPlaced (plain_end_of s)) (λ c. IsWithin (plain_end_of s) (on_the_spot c)) (λ c f. (omega arith, front_count c.history (history_or_empty (buffer_of c.replica (plain_end_of s).buffers)) f.0)) (more_queries_of s) (placed s));
+  on_the_spot = λ z. All-map (λ (p : Reply). p.count ≡ applied_count p.query.history) on_the_spot (more_queries_of s) (λ k d lt. refl);
+  never_falls = pairs_of workers (more_queries_of s) (all_follow 1 s.lines (more_opening s));
 }
 
 -- ---- their lines
@@ -174,20 +182,20 @@ same_lines end (p ∷ ps) a f =
     let tail = same_lines end ps (All-tail (λ (p : Reply). p.count ≡ applied_count p.query.history) p ps a) (All-tail (IsPlaced end) p.query (map (λ (p : Reply). p.query) ps) f) in
     cc (head, tail)
 
-plain_lines : (s : Session) (ps : List Reply) → map (λ (p : Reply). p.query) ps ≡ queries_of s → All (λ (p : Reply). p.count ≡ applied_count p.query.history) ps
-    → map (reply_line (end_of s)) ps ≡ map plain_line (queries_of s)
-plain_lines s ps e a = same_lines (end_of s) ps a (All-same (IsPlaced (end_of s)) (map (λ (p : Reply). p.query) ps) (queries_of s) e (placed s)) ∙ ap (map plain_line) e
+plain_lines : (s : MoreSession) (ps : List Reply) → map (λ (p : Reply). p.query) ps ≡ more_queries_of s → All (λ (p : Reply). p.count ≡ applied_count p.query.history) ps
+    → map (reply_line (plain_end_of s)) ps ≡ map plain_line (more_queries_of s)
+plain_lines s ps e a = same_lines (plain_end_of s) ps a (All-same (IsPlaced (plain_end_of s)) (map (λ (p : Reply). p.query) ps) (more_queries_of s) e (placed s)) ∙ ap (map plain_line) e
 
-plain_text : (s : Session) (ps : List Reply) → map (λ (p : Reply). p.query) ps ≡ queries_of s → All (λ (p : Reply). p.count ≡ applied_count p.query.history) ps
-    → report_text (report_with s (map (reply_line (end_of s)) ps)) ≡ report_text (report_of s)
-unfolding report_of
-plain_text s ps e a = ap (λ (rs : List Report). report_text (report_with s rs)) (plain_lines s ps e a)
+plain_text : (s : MoreSession) (ps : List Reply) → map (λ (p : Reply). p.query) ps ≡ more_queries_of s → All (λ (p : Reply). p.count ≡ applied_count p.query.history) ps
+    → more_report_text (more_report_with s (map (reply_line (plain_end_of s)) ps)) ≡ more_report_text (more_report_of s)
+unfolding more_report_of
+plain_text s ps e a = ap (λ (rs : List Report). more_report_text (more_report_with s rs)) (plain_lines s ps e a)
 
 -- the plain report is one that so many workers may give
-pub plain_report : (s : Session) (workers : ℕ) → IsReport s workers (report_text (report_of s))
+pub plain_report : (s : MoreSession) (workers : ℕ) → IsReport s workers (more_report_text (more_report_of s))
 plain_report s workers =
-    let ps : List Reply = map on_the_spot (queries_of s) in
-    (ps, spot_replies s workers, sym (plain_text s ps (their_queries (queries_of s)) ((spot_replies s 0).on_the_spot refl)))
+    let ps : List Reply = map on_the_spot (more_queries_of s) in
+    (ps, spot_replies s workers, sym (plain_text s ps (their_queries (more_queries_of s)) ((spot_replies s 0).on_the_spot refl)))
 
 pub plain_with_workers : PlainWithWorkers
 plain_with_workers input s workers d = (s, d, plain_report s workers)
@@ -197,7 +205,7 @@ plain_without_workers input output r = (r.0, r.1, r.2.2 ∙ plain_text r.0 r.2.0
 
 -- ---- sessions without queries
 
-no_query_of : (q : ℕ) (l : SessionLine) (s : State) → is_query l ≡ false → query_at q l s ≡ []
+no_query_of : (q : ℕ) (l : SessionLine) (s : State) → old.is_query l ≡ false → query_at q l s ≡ []
 no_query_of q (line.Edit r ps) s e = refl
 no_query_of q (line.Undo r ms) s e = refl
 no_query_of q (line.Op o) s e = refl
@@ -213,28 +221,34 @@ no_query_of q (line.Point r o) s e = absurd (cc e)
 no_query_of q (line.Offset r k c) s e = absurd (cc e)
 no_query_of q (line.Reopen r) s e = refl
 
+no_more_query : (q : ℕ) (l : MoreLine) (s : MoreState) → is_query l ≡ false → more_query_at q l s ≡ []
+no_more_query q (more.Plain l) s e = no_query_of q l s.plain e
+no_more_query q (more.Select r name rs) s e = refl
+no_more_query q (more.Share r name) s e = refl
+no_more_query q (more.Selected r a) s e = refl
+
 none_first : (t : Bool) (n : ℕ) → cond t 1 0 + n ≡ 0 → (t ≡ false) × (n ≡ 0)
 none_first true n e = absurd (omega arith)
 none_first false n e = (refl, omega arith)
 
-no_queries : (q : ℕ) (ls : List SessionLine) (s : State) → query_count ls ≡ 0 → queries_from q ls s ≡ []
+no_queries : (q : ℕ) (ls : List MoreLine) (s : MoreState) → query_count ls ≡ 0 → more_queries_from q ls s ≡ []
 no_queries q [] s e = refl
 no_queries q (l ∷ ls) s e =
-    let f = none_first (is_query l) (query_count ls) (sym (sum_by-cons (λ (k : SessionLine). cond (is_query k) 1 0) l ls) ∙ e) in
-    ap (λ (cs : List AskedQuery). cs ++ queries_from (q + length cs) ls (step l s)) (no_query_of q l s f.0) ∙ no_queries (q + 0) ls (step l s) f.1
+    let f = none_first (is_query l) (query_count ls) (sym (sum_by-cons (λ (k : MoreLine). cond (is_query k) 1 0) l ls) ∙ e) in
+    ap (λ (cs : List AskedQuery). cs ++ more_queries_from (q + length cs) ls (more_step l s)) (no_more_query q l s f.0) ∙ no_queries (q + 0) ls (more_step l s) f.1
 
 no_reply : (ps : List Reply) → map (λ (p : Reply). p.query) ps ≡ [] → ps ≡ []
 no_reply [] e = refl
 no_reply (p ∷ ps) e = absurd (cc e)
 
-one_report : (s : Session) (ps : List Reply) → query_count s.lines ≡ 0 → map (λ (p : Reply). p.query) ps ≡ queries_of s → report_text (report_with s (map (reply_line (end_of s)) ps)) ≡ report_text (report_of s)
-unfolding report_of
+one_report : (s : MoreSession) (ps : List Reply) → query_count s.lines ≡ 0 → map (λ (p : Reply). p.query) ps ≡ more_queries_of s → more_report_text (more_report_with s (map (reply_line (plain_end_of s)) ps)) ≡ more_report_text (more_report_of s)
+unfolding more_report_of
 one_report s ps n e =
-    let none : queries_of s ≡ [] = no_queries 1 s.lines (opening s) n in
-    ap (λ (ps : List Reply). report_text (report_with s (map (reply_line (end_of s)) ps))) (no_reply ps (e ∙ none)) ∙ ap (λ (cs : List AskedQuery). report_text (report_with s (map plain_line cs))) (sym none)
+    let none : more_queries_of s ≡ [] = no_queries 1 s.lines (more_opening s) n in
+    ap (λ (ps : List Reply). more_report_text (more_report_with s (map (reply_line (plain_end_of s)) ps))) (no_reply ps (e ∙ none)) ∙ ap (λ (cs : List AskedQuery). more_report_text (more_report_with s (map plain_line cs))) (sym none)
 
 pub plain_without_queries : PlainWithoutQueries
 plain_without_queries input output workers r s d n =
     let same : Ok r.0 ≡ Ok s = sym r.1 ∙ d in
     let is : r.0 ≡ s = cc same in
-    r.2.2 ∙ one_report r.0 r.2.0 (ap (λ (t : Session). query_count t.lines) is ∙ n) r.2.1.queries ∙ ap (λ (t : Session). report_text (report_of t)) is
+    r.2.2 ∙ one_report r.0 r.2.0 (ap (λ (t : MoreSession). query_count t.lines) is ∙ n) r.2.1.queries ∙ ap (λ (t : MoreSession). more_report_text (more_report_of t)) is

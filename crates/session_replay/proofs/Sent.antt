@@ -1,13 +1,14 @@
 -- What the status says once the answer to a source was sent.
-use Rattle.session_lines.proofs.Faults.{session_of_many}
 use Rattle.std.proofs.Common.{◌≡◌, ℕ, ◌+◌, ◌<◌, ◌≤◌, ◌⊎◌, inl, inr, List, length, sym, ◌∙◌, subst, arith, Option, None, Some, IfSome, Ok, Err}
 use Rattle.std.specs.Io.KnownBytes.{Appends}
 use Rattle.session_replay.specs.Causes.{Rose, RoseBy}
-use Rattle.session_replay.specs.Traffic.{AppendsFront, Had, WasRead, WasTaken, session_limit}
+use Rattle.session_work.specs.Work.{session_limit}
+use Rattle.session_replay.specs.Traffic.{AppendsFront, Had, WasRead, WasTaken}
 use Rattle.session_lines.specs.Cut.{lines_of}
-use Rattle.session_lines.specs.Session.{session_of_text, lines_limit}
+use Rattle.session_lines.specs.Session.{lines_limit}
 use Rattle.session_lines.specs.Words.{bad_line, many_line}
-use Rattle.session_lines.specs.declared.session.Session.{Session}
+use Rattle.session_more.specs.Decoding.{more_session_of_text}
+use Rattle.session_more.specs.declared.session.MoreSession.{MoreSession}
 use Rattle.session_lines.specs.declared.fault.Word.{Word}
 use Rattle.session_lines.specs.declared.fault.DecodeFault.{DecodeFault}
 use Rattle.session_lines.specs.declared.fault.DecodeFault.TheVariants.{Bad, Lines}
@@ -16,6 +17,7 @@ use Rattle.command_words.specs.declared.command.Task.{Task}
 use Rattle.command_words.specs.declared.command.Task.TheVariants as task
 use Rattle.session_replay.specs.declared.top.Status.{Status}
 use Rattle.session_replay.specs.declared.top.Status.TheVariants as status
+use Rattle.session_replay.proofs.Decoded.{session_of_many}
 use Rattle.session_replay.proofs.Outcome.{Told, not_none, told}
 
 if_had : (left : Option (List ℕ)) (input : List ℕ) (P : List ℕ → Type 0) → Had left input → P input → IfSome left P
@@ -46,7 +48,7 @@ module _ (c : Task) (left left_after : Option (List ℕ)) (given given_after end
   pub not_sent : (d : Status) → (status.Done ≡ d → ⊥) → (status.Session ≡ d → ⊥) → (status.TooLarge ≡ d → ⊥) → (status.WriteFault ≡ d → ⊥) → r ≡ d → ⊥
   not_sent d x y z n k = one_of d kept.kinds (same d k n).0 x y z
 
-  does : (c : Task) (s : Session) → session_of_text (migrates c) a.input ≡ Ok s → Writes c a.input s text → Does c a.input text
+  does : (c : Task) (s : MoreSession) → more_session_of_text (migrates c) a.input ≡ Ok s → Writes c a.input s text → Does c a.input text
   does (task.Replay workers) s d w = (s, d, w)
   does task.Check s d w = (s, d, w)
   does task.Migrate s d w = (s, d, w)
@@ -59,7 +61,7 @@ module _ (c : Task) (left left_after : Option (List ℕ)) (given given_after end
       (a.input, a.taken.whole f.0, f.0, (text, wrote s.1 text (λ i. text), does c f.1.0 f.1.1 f.1.2))
 
   pub sent_session : r ≡ status.Session → (input : List ℕ) × WasRead left left_after given given_after ends ends_after input
-      × (length input ≤ session_limit) × ((n : ℕ) × (w : Word) × (session_of_text (migrates c) input ≡ Err (Bad n w)) × Appends written written_after (bad_line n w))
+      × (length input ≤ session_limit) × ((n : ℕ) × (w : Word) × (more_session_of_text (migrates c) input ≡ Err (Bad n w)) × Appends written written_after (bad_line n w))
   sent_session k =
       let s = same status.Session k (λ x. cc) in
       let f = kept.session s.0 in
@@ -101,28 +103,28 @@ module _ (c : Task) (left left_after : Option (List ℕ)) (given given_after end
     sent_by (inr e) = absurd (no_fault e)
 
     -- what answers a session is not the text of a bad line, nor of too many bytes
-    done_by : (s : Session) → length a.input ≤ session_limit → session_of_text (migrates c) a.input ≡ Ok s → IsResponse c a.input st text → st ≡ status.Done
+    done_by : (s : MoreSession) → length a.input ≤ session_limit → more_session_of_text (migrates c) a.input ≡ Ok s → IsResponse c a.input st text → st ≡ status.Done
     done_by s le e (inl w) = w.0
     done_by s le e (inr k) = not_none c a.input s le e k.0
 
-    pub completes : IfSome left (λ input. length input ≤ session_limit → (s : Session) → session_of_text (migrates c) input ≡ Ok s → (r ≡ status.Done) ⊎ (r ≡ status.Memory))
+    pub completes : IfSome left (λ input. length input ≤ session_limit → (s : MoreSession) → more_session_of_text (migrates c) input ≡ Ok s → (r ≡ status.Done) ⊎ (r ≡ status.Memory))
     completes =
-        if_had left a.input (λ input. length input ≤ session_limit → (s : Session) → session_of_text (migrates c) input ≡ Ok s → (r ≡ status.Done) ⊎ (r ≡ status.Memory)) a.taken.had
+        if_had left a.input (λ input. length input ≤ session_limit → (s : MoreSession) → more_session_of_text (migrates c) input ≡ Ok s → (r ≡ status.Done) ⊎ (r ≡ status.Memory)) a.taken.had
         (λ le s e. inl (sent_by either ∙ done_by s le e a.response))
 
-    none_done : st ≡ status.Done → (session_limit < length a.input) ⊎ ((e : DecodeFault) × (session_of_text (migrates c) a.input ≡ Err e)) → ⊥
+    none_done : st ≡ status.Done → (session_limit < length a.input) ⊎ ((e : DecodeFault) × (more_session_of_text (migrates c) a.input ≡ Err e)) → ⊥
     none_done k (inl h) = omega (arith, (kept.done k).0)
     none_done k (inr h) = let e : Ok (kept.done k).1.0 ≡ Err h.0 = sym (kept.done k).1.1 ∙ h.1 in cc
 
-    by_kind : (st ≡ status.Done) ⊎ ((st ≡ status.Session) ⊎ (st ≡ status.TooLarge)) → (session_limit < length a.input) ⊎ ((e : DecodeFault) × (session_of_text (migrates c) a.input ≡ Err e))
+    by_kind : (st ≡ status.Done) ⊎ ((st ≡ status.Session) ⊎ (st ≡ status.TooLarge)) → (session_limit < length a.input) ⊎ ((e : DecodeFault) × (more_session_of_text (migrates c) a.input ≡ Err e))
         → (r ≡ status.Session) ⊎ ((r ≡ status.TooLarge) ⊎ (r ≡ status.Memory))
     by_kind (inl k) h = absurd (none_done k h)
     by_kind (inr (inl k)) h = inl (sent_by either ∙ k)
     by_kind (inr (inr k)) h = inr (inl (sent_by either ∙ k))
 
-    pub refuses : IfSome left (λ input. (session_limit < length input) ⊎ ((e : DecodeFault) × (session_of_text (migrates c) input ≡ Err e)) → (r ≡ status.Session) ⊎ ((r ≡ status.TooLarge) ⊎ (r ≡ status.Memory)))
+    pub refuses : IfSome left (λ input. (session_limit < length input) ⊎ ((e : DecodeFault) × (more_session_of_text (migrates c) input ≡ Err e)) → (r ≡ status.Session) ⊎ ((r ≡ status.TooLarge) ⊎ (r ≡ status.Memory)))
     refuses =
-        if_had left a.input (λ input. (session_limit < length input) ⊎ ((e : DecodeFault) × (session_of_text (migrates c) input ≡ Err e)) → (r ≡ status.Session) ⊎ ((r ≡ status.TooLarge) ⊎ (r ≡ status.Memory))) a.taken.had
+        if_had left a.input (λ input. (session_limit < length input) ⊎ ((e : DecodeFault) × (more_session_of_text (migrates c) input ≡ Err e)) → (r ≡ status.Session) ⊎ ((r ≡ status.TooLarge) ⊎ (r ≡ status.Memory))) a.taken.had
         (by_kind kept.kinds)
 
 no_fault_by : (st : Status) → (st ≡ status.Done) ⊎ ((st ≡ status.Session) ⊎ (st ≡ status.TooLarge)) → st ≡ status.WriteFault → ⊥

@@ -5,28 +5,26 @@ use Rattle.op_model.specs.declared.operation.Operation.{Operation}
 use Rattle.text_buffer.specs.Buffer.{BufferState}
 use Rattle.text_buffer.specs.Document.{IsFront}
 use Rattle.session_lines.specs.Heading.{most_replicas}
-use Rattle.session_lines.specs.Report.{report_text}
-use Rattle.session_lines.specs.Session.{query_count}
-use Rattle.session_lines.specs.declared.session.SessionLine.{SessionLine}
 use Rattle.session_lines.specs.declared.report.Report.{Report}
 use Rattle.session_lines.specs.declared.report.Report.TheVariants as report
 use Rattle.session_lines.specs.declared.report.QueryAnswer.{QueryAnswer}
+use Rattle.session_more.specs.Lines.{query_count}
+use Rattle.session_more.specs.Reports.{more_report_text}
+use Rattle.session_more.specs.declared.session.MoreLine.{MoreLine}
 use Rattle.query_workers.specs.Asks.{Ask}
 use Rattle.query_workers.specs.declared.query.Answer.{Answer}
 use Rattle.query_dispatch.specs.Dealt.{HasAsked, pairs_in, queues_of}
 use Rattle.query_dispatch.specs.Published.{AreLevel, AreTied, published_lists, rows_of}
 use Rattle.query_dispatch.specs.Final.{IsReady}
 use Rattle.query_dispatch.specs.States.{DispatcherState, PublishersState}
-use Rattle.session_replay.specs.Queries.{AskedQuery, queries_from}
-use Rattle.session_replay.specs.declared.queries.Question.{Question}
-use Rattle.session_replay.specs.Work.{after_all, all_events, applied_count}
-use Rattle.session_replay.specs.Working.{state_of}
+use Rattle.session_work.specs.MoreQueries.{more_queries_from}
+use Rattle.session_work.specs.MoreWork.{after_all_more, all_more_events}
+use Rattle.session_work.specs.Queries.{AskedQuery}
+use Rattle.session_work.specs.declared.queries.Question.{Question}
+use Rattle.session_work.specs.Work.{applied_count, histories}
+use Rattle.session_work.specs.Working.{buffers_of, more_state_of}
 use Rattle.session_replay.specs.declared.beside.Editor.{Editor}
 use Rattle.session_replay.specs.declared.beside.Edited.{Edited}
-
--- what each replica has applied
-abbrev pub histories : List BufferState → List (List Operation)
-histories bs = map (λ (b : BufferState). b.history) bs
 
 -- the index of replica r
 abbrev pub index_among : List BufferState → ℕ → ℕ
@@ -81,14 +79,16 @@ pub record HasLeft (bs : List BufferState) (asks : List (Ask Question))
   pub pairs : pairs_in e.gathering.inboxes.items ≡ pairs_in d.inboxes
 
 -- an editor that has asked nothing yet, and has room for the queries of these lines
-pub record CanEdit (lines : List SessionLine) (o : Editor) (p : PublishersState) : Type 0 where
-  pub asking : IsAsking o.progress.exchange.buffers [] o.dispatcher p
+pub record CanEdit (lines : List MoreLine) (o : Editor) (p : PublishersState) : Type 0 where
+  pub asking : IsAsking (buffers_of o.progress) [] o.dispatcher p
   pub workers : o.workers ≡ p.workers
   pub room : o.dispatcher.count + query_count lines ≤ o.dispatcher.limit
 
 -- an editor that has worked these lines and asked their queries has left
-pub record HasEdited (lines : List SessionLine) (o : Editor) (e : Edited) : Type 0 where
-  pub report : e.progress.report.items ≡ o.progress.report.items ++ report_text (all_events lines (state_of o.progress))
-  pub state : state_of e.progress ≡ after_all lines (state_of o.progress)
-  pub left : HasLeft e.progress.exchange.buffers (asks_among o.progress.exchange.buffers (queries_from 1 lines (state_of o.progress)))
+pub record HasEdited (lines : List MoreLine) (o : Editor) (e : Edited) : Type 0 where
+  pub report : e.progress.plain.report.items
+      ≡ o.progress.plain.report.items ++ more_report_text (all_more_events lines (more_state_of o.progress))
+  pub state : more_state_of e.progress ≡ after_all_more lines (more_state_of o.progress)
+  pub left : HasLeft (buffers_of e.progress)
+      (asks_among (buffers_of o.progress) (more_queries_from 1 lines (more_state_of o.progress)))
       o.dispatcher e

@@ -1,16 +1,19 @@
 -- What an input comes to.
 use Rattle.std.specs.Prelude.{⊤, ◌≡◌, ℕ, ◌<◌, ◌≤◌, ◌⊎◌, List, length, map, nat_lt, codes, Option, Result, Ok, Err, if◌then◌else◌, Bool, false, true}
 use Rattle.session_lines.specs.Cut.{lines_of}
-use Rattle.session_lines.specs.Report.{session_counts, line_text, report_text}
-use Rattle.session_lines.specs.Session.{IsSession, session_of_text}
+use Rattle.session_lines.specs.Session.{IsSession}
 use Rattle.session_lines.specs.Words.{bad_line, many_line}
-use Rattle.session_lines.specs.declared.session.Session.{Session}
 use Rattle.session_lines.specs.declared.fault.DecodeFault.{DecodeFault}
 use Rattle.session_lines.specs.declared.fault.DecodeFault.TheVariants.{Lines, Bad, OutOfMemory}
-use Rattle.session_replay.specs.Traffic.{WasRead, WasTaken, session_limit}
+use Rattle.session_more.specs.Decoding.{headed, more_session_of_text}
+use Rattle.session_more.specs.Reports.{more_line_text, more_report_text, more_session_counts}
+use Rattle.session_more.specs.declared.session.MoreSession.{MoreSession}
+use Rattle.session_work.specs.Work.{session_limit}
+use Rattle.session_replay.specs.Traffic.{WasRead, WasTaken}
 use Rattle.session_writer.specs.Migrated.{IsMigrated, migrated_text}
-use Rattle.session_replay.specs.Making.{Makes}
-use Rattle.session_replay.specs.Queries.{AreReplies, IsReport, Reply, end_of, reply_line, report_of, report_with}
+use Rattle.session_work.specs.Making.{Makes}
+use Rattle.session_replay.specs.Replies.{AreReplies, IsReport, Reply, reply_line}
+use Rattle.session_work.specs.MoreQueries.{more_report_of, more_report_with, plain_end_of}
 use Rattle.command_words.specs.declared.command.Command.{Command}
 use Rattle.command_words.specs.declared.command.Command.TheVariants as command
 use Rattle.command_words.specs.declared.command.Task.{Task}
@@ -22,13 +25,14 @@ use Rattle.session_replay.specs.declared.top.Prepared.TheVariants as prepared
 
 -- the input is a session, and the output is its report with some replies to its queries that this number of workers may give
 abbrev pub Replays : List ℕ → List ℕ → ℕ → Type 0
-Replays input output workers = (s : Session) × (session_of_text false input ≡ Ok s)
+Replays input output workers = (s : MoreSession) × (more_session_of_text false input ≡ Ok s)
     × ((ps : List Reply) × AreReplies s workers ps
-    × (output ≡ report_text (report_with s (map (reply_line (end_of s)) ps))))
+    × (output ≡ more_report_text (more_report_with s (map (reply_line (plain_end_of s)) ps))))
 
 -- the input is a session, and the output is the line with what is counted of it
 abbrev pub Checks : List ℕ → List ℕ → Type 0
-Checks input output = (s : Session) × (session_of_text false input ≡ Ok s) × (output ≡ line_text (session_counts s))
+Checks input output =
+    (s : MoreSession) × (more_session_of_text false input ≡ Ok s) × (output ≡ more_line_text (more_session_counts s))
 
 -- the task writes a session as one of version 2, which no session of version 1 with a CR can be
 abbrev pub migrates : Task → Bool
@@ -38,7 +42,7 @@ migrates task.Migrate = true
 
 -- the input is a session that can be one of version 2, and the output is it: the text of its values, which decodes to it
 abbrev pub Migrates : List ℕ → List ℕ → Type 0
-Migrates input output = (s : Session) × (session_of_text true input ≡ Ok s) × IsMigrated s input output
+Migrates input output = (s : MoreSession) × (more_session_of_text true input ≡ Ok s) × IsMigrated s input output
 
 -- the output is what the task makes of the input
 abbrev pub Does : Task → List ℕ → List ℕ → Type 0
@@ -63,12 +67,12 @@ refusal (Bad n w) = (status.Session, bad_line n w)
 refusal OutOfMemory = (status.Memory, codes "")
 
 -- what a task writes for the session that an input is
-abbrev pub written_for : Task → List ℕ → Session → List ℕ
-written_for (task.Replay workers) input s = report_text (report_of s)
-written_for task.Check input s = line_text (session_counts s)
+abbrev pub written_for : Task → List ℕ → MoreSession → List ℕ
+written_for (task.Replay workers) input s = more_report_text (more_report_of s)
+written_for task.Check input s = more_line_text (more_session_counts s)
 written_for task.Migrate input s = migrated_text s (lines_of input)
 
-abbrev pub response_with : Task → List ℕ → Result Session DecodeFault → Status × List ℕ
+abbrev pub response_with : Task → List ℕ → Result MoreSession DecodeFault → Status × List ℕ
 response_with c input (Ok s) = (status.Done, written_for c input s)
 response_with c input (Err e) = refusal e
 
@@ -76,7 +80,7 @@ unfoldable pub response_of : Task → List ℕ → Status × List ℕ
 response_of c input =
     if nat_lt session_limit (length input)
     then (status.TooLarge, large_line)
-    else response_with c input (session_of_text (migrates c) input)
+    else response_with c input (more_session_of_text (migrates c) input)
 
 -- ---- what may be written for an input
 
@@ -84,7 +88,7 @@ response_of c input =
 abbrev pub Refuses : Task → List ℕ → List ℕ → Type 0
 Refuses c input output =
     ((session_limit < length input) × (output ≡ large_line))
-    ⊎ ((length input ≤ session_limit) × ((e : DecodeFault) × (session_of_text (migrates c) input ≡ Err e)
+    ⊎ ((length input ≤ session_limit) × ((e : DecodeFault) × (more_session_of_text (migrates c) input ≡ Err e)
     × (output ≡ (refusal e).1)))
 
 -- the output is one for the input: what the task makes of a session, or the line that refuses what is none
@@ -104,20 +108,20 @@ Ends (command.Make seed n edits) left left_after given given_after ends ends_aft
 -- ---- for private clauses
 
 -- what a task may write for the session that an input is
-abbrev pub Writes : Task → List ℕ → Session → List ℕ → Type 0
+abbrev pub Writes : Task → List ℕ → MoreSession → List ℕ → Type 0
 Writes (task.Replay workers) input s output = IsReport s workers output
-Writes task.Check input s output = output ≡ line_text (session_counts s)
+Writes task.Check input s output = output ≡ more_line_text (more_session_counts s)
 Writes task.Migrate input s output = IsMigrated s input output
 
 -- the input is a session, and the text is what the task may write for it
 abbrev pub IsWork : Task → List ℕ → Status → List ℕ → Type 0
 IsWork c input st text =
     (st ≡ status.Done) × (length input ≤ session_limit)
-    × ((s : Session) × (session_of_text (migrates c) input ≡ Ok s) × Writes c input s text)
+    × ((s : MoreSession) × (more_session_of_text (migrates c) input ≡ Ok s) × Writes c input s text)
 
 -- the input is too long, or no session
 abbrev pub IsNone : Task → List ℕ → Type 0
-IsNone c input = (session_limit < length input) ⊎ ((e : DecodeFault) × (session_of_text (migrates c) input ≡ Err e))
+IsNone c input = (session_limit < length input) ⊎ ((e : DecodeFault) × (more_session_of_text (migrates c) input ≡ Err e))
 
 -- the status and the text respond to an input: what the task may write for its session, or the plain response where it is none
 abbrev pub IsResponse : Task → List ℕ → Status → List ℕ → Type 0
@@ -136,12 +140,12 @@ abbrev pub IsPrepared : Task → List ℕ → Prepared → Type 0
 IsPrepared c input (prepared.Response st text) = IsResponse c input st text.items
 IsPrepared c input (prepared.Beside workers s) =
     (c ≡ task.Replay workers) × (1 ≤ workers) × (length input ≤ session_limit)
-    × (session_of_text (migrates c) input ≡ Ok s) × IsSession session_limit s
+    × (more_session_of_text (migrates c) input ≡ Ok s) × IsSession session_limit (headed s)
 
 -- workers may answer what is left to them
 abbrev pub IsReady : Prepared → Type 0
 IsReady (prepared.Response st text) = ⊤
-IsReady (prepared.Beside workers s) = (1 ≤ workers) × IsSession session_limit s
+IsReady (prepared.Beside workers s) = (1 ≤ workers) × IsSession session_limit (headed s)
 
 -- the status and the text of what was prepared
 abbrev pub IsWritten : Prepared → Status → List ℕ → Type 0

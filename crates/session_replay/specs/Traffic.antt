@@ -1,11 +1,8 @@
 -- What a whole read or a write did to the known bytes and to the counts.
 use Rattle.std.specs.Prelude.{◌≡◌, ℕ, ◌+◌, ◌<◌, ◌≤◌, List, ◌++◌, length, take, Option, IfSome}
 use Rattle.std.specs.Io.KnownBytes.{Appends, Consumes, IsAtEnd}
+use Rattle.session_work.specs.Work.{session_limit}
 use Rattle.session_replay.specs.Causes.{saturating_sum, end_met, Rose, RoseBy}
-
--- the most bytes that a session may have
-abbrev pub session_limit : ℕ
-session_limit = 67108864
 
 -- some front of the text was written
 abbrev pub AppendsFront : Option (List ℕ) → Option (List ℕ) → List ℕ → Type 0

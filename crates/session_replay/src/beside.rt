@@ -2,8 +2,11 @@
 ghost use Rattle.std.specs.Prelude.{◌≡◌, ◌≤◌, ◌<◌, ◌+◌, [], ◌∷◌, ◌++◌, List, length, map, IfOk, OnErr, OnOk, All, Some};
 ghost use Rattle.std.specs.List.{flat_map};
 ghost use Rattle.session_lines.specs.Report.{report_text};
-ghost use Rattle.session_lines.specs.Session.{IsSession, query_count};
+ghost use Rattle.session_lines.specs.Session.{IsSession};
 ghost use Rattle.session_lines.specs.declared.report.QueryAnswer.{QueryAnswer};
+ghost use Rattle.session_more.specs.Decoding.{headed};
+ghost use Rattle.session_more.specs.Lines.{query_count};
+ghost use Rattle.session_more.specs.Reports.{more_report_text};
 ghost use Rattle.query_workers.specs.Asks.{Ask};
 ghost use Rattle.query_workers.specs.States.{DeskState};
 ghost use Rattle.query_workers.specs.declared.query.Answer.{Answer};
@@ -11,19 +14,22 @@ ghost use Rattle.query_dispatch.specs.Dealt.{AreEnds, HasAsked, told_lists, told
 ghost use Rattle.query_dispatch.specs.Final.{AreGathered, HaveWorked, IsPast};
 ghost use Rattle.query_dispatch.specs.Published.{AreLevel, columns, published_lists, rows_of};
 ghost use Rattle.query_dispatch.specs.States.{DispatcherState};
-ghost use Rattle.session_replay.specs.Beside.{AsksMore, CanEdit, HasEdited, HasLeft, IsAsking, KeepsEnds, histories, line_of};
-ghost use Rattle.session_replay.specs.Queries.{IsReport, plain_answer, queries_from, query_at, query_with};
-ghost use Rattle.session_replay.specs.Traffic.{session_limit};
-ghost use Rattle.session_replay.specs.Work.{after_all, all_events, at_end, events, step};
-ghost use Rattle.session_replay.specs.Working.{state_of};
-ghost use Rattle.session_replay.specs.declared.queries.Question.{Question};
+ghost use Rattle.session_replay.specs.Beside.{AsksMore, CanEdit, HasEdited, HasLeft, IsAsking, KeepsEnds, line_of};
+ghost use Rattle.session_replay.specs.Replies.{IsReport};
+ghost use Rattle.session_work.specs.MoreQueries.{more_queries_from, more_query_at};
+ghost use Rattle.session_work.specs.MoreWork.{after_all_more, all_more_events, more_events, more_step};
+ghost use Rattle.session_work.specs.Queries.{plain_answer, query_with};
+ghost use Rattle.session_work.specs.Work.{at_end, session_limit, histories};
+ghost use Rattle.session_work.specs.Working.{buffers_of, more_state_of};
+ghost use Rattle.session_work.specs.declared.queries.Question.{Question};
 
 use crate::OutOfMemory;
-use crate::queries::{Question, query_line, question_of};
-use crate::replay::Progress;
+use crate::text_query::TextQuery;
 use query_dispatch::{Dispatcher, Gathering, Publishers, open_desks};
 use query_workers::{Answer, Desk, Done, Gate, work_beside};
-use session_lines::{LineQueue, QueryAnswer, Report, Session, SessionLine};
+use session_lines::{QueryAnswer, Report};
+use session_more::{MoreLine, MoreQueue, MoreSession};
+use session_work::{MoreProgress, Question, more_question_of, query_line};
 use snapshot_pub::Told;
 use std::alloc::Global;
 use std::sync::Wait;
@@ -33,15 +39,15 @@ use std::thread::Threads;
 #[derive(Drop)]
 pub struct Editor {
     workers: u32,
-    progress: Progress,
-    dispatcher: Dispatcher<Question>,
+    progress: MoreProgress,
+    dispatcher: Dispatcher<TextQuery>,
 }
 
 /// What the editor leaves: the session as it was worked, and what the answers are gathered from.
 #[derive(Drop)]
 pub struct Edited {
-    progress: Progress,
-    gathering: Gathering<Question>,
+    progress: MoreProgress,
+    gathering: Gathering<TextQuery>,
 }
 
 impl Editor {
@@ -54,24 +60,25 @@ impl Editor {
         question: Question,
     ) -> Result<(), OutOfMemory>
         requires asking { (asks : List (Ask Question))
-            × IsAsking self.old.progress.exchange.buffers asks self.old.dispatcher publishers.old }
+            × IsAsking (buffers_of self.old.progress) asks self.old.dispatcher publishers.old }
         requires room { self.old.dispatcher.count < self.old.dispatcher.limit }
         ensures same { (self.new.workers ≡ self.old.workers)
             × (self.new.progress ≡ self.old.progress) }
         ensures ends { KeepsEnds self.old.dispatcher publishers.old self.new.dispatcher
             publishers.new }
-        ensures asking { OnOk result (AsksMore self.old.progress.exchange.buffers self.old.dispatcher
-            publishers.old (λ n. query_with n (state_of self.old.progress) (Some (id, question)))
-            self.old.progress.exchange.buffers self.new.dispatcher publishers.new) }
+        ensures asking { OnOk result (AsksMore (buffers_of self.old.progress) self.old.dispatcher
+            publishers.old
+            (λ n. query_with n (more_state_of self.old.progress).plain (Some (id, question)))
+            (buffers_of self.old.progress) self.new.dispatcher publishers.new) }
         ensures err { OnErr result (self.new.dispatcher ≡ self.old.dispatcher) }
     {
-        let Some(index) = self.progress.index_of(id) else {
+        let Some(index) = self.progress.plain.index_of(id) else {
             return Ok(());
         };
-        let snapshot = self.progress.replicas()[index].snapshot()?;
+        let snapshot = self.progress.plain.replicas()[index].snapshot()?;
         let index = index as u32;
         self.dispatcher
-            .ask(rt, publishers, index, &snapshot, question)?;
+            .ask(rt, publishers, index, &snapshot, TextQuery::new(question))?;
         Ok(())
     }
 
@@ -81,27 +88,27 @@ impl Editor {
         rt: &R,
         alloc: Global,
         publishers: &mut Publishers,
-        line: SessionLine,
+        line: MoreLine,
     ) -> Result<(), OutOfMemory>
         requires asking { (asks : List (Ask Question))
-            × IsAsking self.old.progress.exchange.buffers asks self.old.dispatcher publishers.old }
+            × IsAsking (buffers_of self.old.progress) asks self.old.dispatcher publishers.old }
         requires room { self.old.dispatcher.count + query_count (line ∷ [])
             ≤ self.old.dispatcher.limit }
         ensures same { self.new.workers ≡ self.old.workers }
-        ensures report { OnOk result (self.new.progress.report.items
-            ≡ self.old.progress.report.items
-            ++ report_text (events line (state_of self.old.progress))) }
-        ensures state { OnOk result (state_of self.new.progress
-            ≡ step line (state_of self.old.progress)) }
+        ensures report { OnOk result (self.new.progress.plain.report.items
+            ≡ self.old.progress.plain.report.items
+            ++ more_report_text (more_events line (more_state_of self.old.progress))) }
+        ensures state { OnOk result (more_state_of self.new.progress
+            ≡ more_step line (more_state_of self.old.progress)) }
         ensures ends { KeepsEnds self.old.dispatcher publishers.old self.new.dispatcher
             publishers.new }
-        ensures asking { OnOk result (AsksMore self.old.progress.exchange.buffers self.old.dispatcher
-            publishers.old (λ n. query_at n line (state_of self.old.progress))
-            self.new.progress.exchange.buffers self.new.dispatcher publishers.new) }
+        ensures asking { OnOk result (AsksMore (buffers_of self.old.progress) self.old.dispatcher
+            publishers.old (λ n. more_query_at n line (more_state_of self.old.progress))
+            (buffers_of self.new.progress) self.new.dispatcher publishers.new) }
         ensures err { OnErr result ((asks : List (Ask Question))
             × HasAsked self.new.dispatcher asks) }
     {
-        match question_of(line) {
+        match more_question_of(line) {
             Ok((id, question)) => self.put(rt, publishers, id, question),
             Err(line) => self.progress.work_line(alloc, line),
         }
@@ -114,23 +121,23 @@ impl Editor {
         alloc: Global,
         gate: &G,
         publishers: &mut Publishers,
-        mut lines: LineQueue,
+        mut lines: MoreQueue,
     ) -> Result<(), OutOfMemory>
         requires asking { (asks : List (Ask Question))
-            × IsAsking self.old.progress.exchange.buffers asks self.old.dispatcher publishers.old }
+            × IsAsking (buffers_of self.old.progress) asks self.old.dispatcher publishers.old }
         requires room { self.old.dispatcher.count + query_count lines
             ≤ self.old.dispatcher.limit }
         ensures same { self.new.workers ≡ self.old.workers }
-        ensures report { OnOk result (self.new.progress.report.items
-            ≡ self.old.progress.report.items
-            ++ report_text (all_events lines (state_of self.old.progress))) }
-        ensures state { OnOk result (state_of self.new.progress
-            ≡ after_all lines (state_of self.old.progress)) }
+        ensures report { OnOk result (self.new.progress.plain.report.items
+            ≡ self.old.progress.plain.report.items
+            ++ more_report_text (all_more_events lines (more_state_of self.old.progress))) }
+        ensures state { OnOk result (more_state_of self.new.progress
+            ≡ after_all_more lines (more_state_of self.old.progress)) }
         ensures ends { KeepsEnds self.old.dispatcher publishers.old self.new.dispatcher
             publishers.new }
-        ensures asking { OnOk result (AsksMore self.old.progress.exchange.buffers self.old.dispatcher
-            publishers.old (λ n. queries_from n lines (state_of self.old.progress))
-            self.new.progress.exchange.buffers self.new.dispatcher publishers.new) }
+        ensures asking { OnOk result (AsksMore (buffers_of self.old.progress) self.old.dispatcher
+            publishers.old (λ n. more_queries_from n lines (more_state_of self.old.progress))
+            (buffers_of self.new.progress) self.new.dispatcher publishers.new) }
         ensures err { OnErr result ((asks : List (Ask Question))
             × HasAsked self.new.dispatcher asks) }
     {
@@ -153,12 +160,12 @@ impl Editor {
         publishers: &Publishers,
     ) -> Result<Edited, OutOfMemory>
         requires asking { (asks : List (Ask Question))
-            × IsAsking self.progress.exchange.buffers asks self.dispatcher publishers.now }
+            × IsAsking (buffers_of self.progress) asks self.dispatcher publishers.now }
         requires workers { self.workers ≡ publishers.now.workers }
         ensures progress { IfOk result (λ e. e.progress ≡ self.progress) }
         ensures left { IfOk result (λ e. (asks : List (Ask Question))
-            → IsAsking self.progress.exchange.buffers asks self.dispatcher publishers.now
-            → HasLeft self.progress.exchange.buffers asks self.dispatcher e) }
+            → IsAsking (buffers_of self.progress) asks self.dispatcher publishers.now
+            → HasLeft (buffers_of self.progress) asks self.dispatcher e) }
     {
         let Editor {
             workers,
@@ -200,7 +207,7 @@ impl Editor {
         alloc: Global,
         gate: &G,
         publishers: &mut Publishers,
-        lines: LineQueue,
+        lines: MoreQueue,
     ) -> Result<Edited, OutOfMemory>
         requires { CanEdit lines self publishers.old }
         ensures { IfOk result (λ e. HasEdited lines self e) }
@@ -238,7 +245,7 @@ fn tell_workers(
 /// The lines of the answers.
 fn answer_lines(
     alloc: Global,
-    answers: Vec<Answer<Question, QueryAnswer>>,
+    answers: Vec<Answer<TextQuery, QueryAnswer>>,
 ) -> Result<Vec<Report>, OutOfMemory>
     ensures { IfOk result (λ v. v.items ≡ map line_of answers.items) }
 {
@@ -261,28 +268,28 @@ fn gathered_report<R: Threads + Sync>(
     rt: &R,
     alloc: Global,
     edited: Edited,
-    dones: Vec<Done<Question, QueryAnswer>>,
+    dones: Vec<Done<TextQuery, QueryAnswer>>,
 ) -> Result<Vec<u8>, OutOfMemory>
     requires { (asks : List (Ask Question)) × (d : DispatcherState Question)
-        × (desks : List DeskState) × HasLeft edited.progress.exchange.buffers asks d edited
-        × All (IsPast (histories edited.progress.exchange.buffers)) asks × AreEnds d.inboxes desks
+        × (desks : List DeskState) × HasLeft (buffers_of edited.progress) asks d edited
+        × All (IsPast (histories (buffers_of edited.progress))) asks × AreEnds d.inboxes desks
         × HaveWorked plain_answer desks dones.items }
     ensures { (asks : List (Ask Question)) → (d : DispatcherState Question)
-        → HasLeft edited.progress.exchange.buffers asks d edited
+        → HasLeft (buffers_of edited.progress) asks d edited
         → IfOk result (λ v. (answers : List (Answer Question QueryAnswer))
-        × AreGathered plain_answer (length d.inboxes) (histories edited.progress.exchange.buffers)
+        × AreGathered plain_answer (length d.inboxes) (histories (buffers_of edited.progress))
         asks answers
-        × (v.items ≡ (edited.progress.report.items ++ report_text (map line_of answers))
-        ++ report_text (flat_map at_end edited.progress.exchange.buffers))) }
+        × (v.items ≡ (edited.progress.plain.report.items ++ report_text (map line_of answers))
+        ++ report_text (flat_map at_end (buffers_of edited.progress)))) }
 {
     let Edited {
         progress,
         gathering,
     } = edited;
-    let lasts = progress.snapshots(alloc)?;
+    let lasts = progress.plain.snapshots(alloc)?;
     let (answers, _readers) = gathering.gather(rt, alloc, dones, lasts.as_slice())?;
     let lines = answer_lines(alloc, answers)?;
-    progress.finish(alloc, lines.as_slice())
+    progress.plain.finish(alloc, lines.as_slice())
 }
 
 /// Runs the editor beside its workers, until all have ended.
@@ -292,9 +299,9 @@ fn edit_beside<R: Threads + Wait + Sync, G: Gate>(
     gate: &G,
     publishers: &mut Publishers,
     editor: Editor,
-    desks: Vec<Desk<Question>>,
-    lines: LineQueue,
-) -> Result<(Edited, Vec<Done<Question, QueryAnswer>>), OutOfMemory>
+    desks: Vec<Desk<TextQuery>>,
+    lines: MoreQueue,
+) -> Result<(Edited, Vec<Done<TextQuery, QueryAnswer>>), OutOfMemory>
     requires { CanEdit lines editor publishers.old }
     ensures edited { IfOk result (λ r. HasEdited lines editor r.0) }
     ensures worked { IfOk result (λ r. HaveWorked plain_answer desks.items r.1.items) }
@@ -319,21 +326,16 @@ fn replay_beside<R: Threads + Wait + Sync, G: Gate>(
     gate: &G,
     publishers: &mut Publishers,
     workers: u32,
-    session: Session,
+    session: MoreSession,
 ) -> Result<Vec<u8>, OutOfMemory>
-    requires session { IsSession session_limit session }
+    requires session { IsSession session_limit (headed session) }
     requires some { 1 ≤ workers }
     requires none { (publishers.old.workers ≡ workers) × (publishers.old.list ≡ [])
         × (publishers.old.sizes ≡ []) }
     ensures { IfOk result (λ v. IsReport session workers v.items) }
 {
-    let progress = Progress::new(
-        alloc,
-        session.endings(),
-        session.replicas.as_slice(),
-        session.base.as_str(),
-    )?;
-    let firsts = progress.snapshots(alloc)?;
+    let progress = MoreProgress::new(alloc, &session)?;
+    let firsts = progress.plain.snapshots(alloc)?;
     let limit = session.query_count();
     let lines = session.lines.into_queue();
     let (dispatcher, desks) = open_desks(rt, alloc, publishers, firsts, limit)?;
@@ -352,9 +354,9 @@ pub fn report_beside<R: Threads + Wait + Sync, G: Gate>(
     alloc: Global,
     gate: &G,
     workers: u32,
-    session: Session,
+    session: MoreSession,
 ) -> Result<Vec<u8>, OutOfMemory>
-    requires session { IsSession session_limit session }
+    requires session { IsSession session_limit (headed session) }
     requires some { 1 ≤ workers }
     ensures { IfOk result (λ v. IsReport session workers v.items) }
 {

@@ -1,5 +1,5 @@
 //! What the report of a session is, whatever the workers.
-ghost use Rattle.session_replay.specs.Laws.{MigratedReportsAlike, PlainWithWorkers, PlainWithoutQueries, PlainWithoutWorkers};
+ghost use Rattle.session_replay.specs.Laws.{MigratedReportsAlike, OldReportsStay, PlainWithWorkers, PlainWithoutQueries, PlainWithoutWorkers};
 
 /// Without workers the output is the plain report: each query is answered at its place in the session. It is so for every
 /// session, also where operations come late.
@@ -15,6 +15,11 @@ pub fn plain_without_queries()
 /// The plain report is one that any number of workers may give.
 pub fn plain_with_workers()
     ensures { PlainWithWorkers }
+{}
+
+/// A session of the lines of `session_lines` alone reports what these lines report, whatever further kinds of lines there are.
+pub fn old_reports_stay()
+    ensures { OldReportsStay }
 {}
 
 /// The session that `migrate` writes has the report of its input, byte for byte, where no workers answer queries: none of its texts has a

@@ -6,23 +6,18 @@
 
 mod beside;
 mod counts;
-mod exchange;
 mod laws;
-mod making;
 mod memory;
-mod names;
 mod outside;
-mod queries;
-mod replay;
-mod replica;
-mod replicas;
 mod sure;
+mod text_query;
 mod top;
 mod traffic;
 
 pub use counts::ReadCounts;
 pub use laws::{
-    migrated_reports_alike, plain_with_workers, plain_without_queries, plain_without_workers,
+    migrated_reports_alike, old_reports_stay, plain_with_workers, plain_without_queries,
+    plain_without_workers,
 };
 pub use memory::{MemSink, MemSource, SureSink, SureSource};
 pub use op_model::OutOfMemory;

@@ -4,12 +4,13 @@ ghost use Rattle.command_words.specs.Words.{command_of};
 ghost use Rattle.command_words.specs.declared.command.Command.{Command};
 ghost use Rattle.command_words.specs.declared.command.Task.{Task};
 ghost use Rattle.session_lines.specs.Cut.{lines_of};
-ghost use Rattle.session_lines.specs.Session.{session_of_text, lines_limit};
-ghost use Rattle.session_lines.specs.declared.session.Session.{Session};
+ghost use Rattle.session_lines.specs.Session.{lines_limit};
 ghost use Rattle.session_lines.specs.declared.fault.Word.{Word};
 ghost use Rattle.session_lines.specs.declared.fault.DecodeFault.{DecodeFault};
+ghost use Rattle.session_more.specs.Decoding.{more_session_of_text};
+ghost use Rattle.session_more.specs.declared.session.MoreSession.{MoreSession};
 ghost use Rattle.session_replay.specs.Replay.{migrates};
-ghost use Rattle.session_replay.specs.Traffic.{session_limit};
+ghost use Rattle.session_work.specs.Work.{session_limit};
 
 use crate::memory::{SureSink, SureSource};
 use crate::top::{Status, run};
@@ -33,19 +34,19 @@ pub fn run_on_bytes<R: Threads + Wait + Sync, G: Gate>(
     // A command and a session within the limits, or a command that reads none.
     ensures completes { (task : Task) → command_of words.now ≡ Some (Command.Read task)
         → length bytes.items ≤ session_limit
-        → (s : Session) → session_of_text (migrates task) bytes.items ≡ Ok s
+        → (s : MoreSession) → more_session_of_text (migrates task) bytes.items ≡ Ok s
         → (result ≡ Status.Done) ⊎ (result ≡ Status.Memory) }
     ensures made { (seed n edits : ℕ) → command_of words.now ≡ Some (Command.Make seed n edits)
         → (result ≡ Status.Done) ⊎ (result ≡ Status.Memory) }
     // A command, and bytes that are no session or too many.
     ensures refuses { (task : Task) → command_of words.now ≡ Some (Command.Read task)
         → (session_limit < length bytes.items)
-        ⊎ ((e : DecodeFault) × (session_of_text (migrates task) bytes.items ≡ Err e))
+        ⊎ ((e : DecodeFault) × (more_session_of_text (migrates task) bytes.items ≡ Err e))
         → (result ≡ Status.Session) ⊎ ((result ≡ Status.TooLarge) ⊎ (result ≡ Status.Memory)) }
     ensures session { result ≡ Status.Session → (length bytes.items ≤ session_limit)
         × ((task : Task) × (command_of words.now ≡ Some (Command.Read task))
         × ((n : ℕ) × (w : Word)
-        × (session_of_text (migrates task) bytes.items ≡ Err (DecodeFault.Bad n w)))) }
+        × (more_session_of_text (migrates task) bytes.items ≡ Err (DecodeFault.Bad n w)))) }
     ensures large { result ≡ Status.TooLarge → (session_limit < length bytes.items)
         ⊎ (lines_limit < length (lines_of bytes.items)) }
 {

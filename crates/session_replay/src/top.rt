@@ -2,30 +2,31 @@
 ghost use Rattle.std.specs.Prelude.{◌≡◌, ◌≤◌, ◌<◌, ◌+◌, ◌⊎◌, ℕ, List, length, string_bytes, false, IfOk, IfSome, IsErrOf, Ok, Err, Some, None};
 ghost use Rattle.std.specs.Io.KnownBytes.{Appends};
 ghost use Rattle.session_replay.specs.Causes.{Rose, RoseBy};
-ghost use Rattle.session_replay.specs.Traffic.{AppendsFront, WasRead, WasTaken, session_limit};
+ghost use Rattle.session_work.specs.Work.{session_limit};
+ghost use Rattle.session_replay.specs.Traffic.{AppendsFront, WasRead, WasTaken};
 ghost use Rattle.command_words.specs.Words.{clap_takes, command_of};
 ghost use Rattle.command_words.specs.declared.command.Command.{Command};
 ghost use Rattle.command_words.specs.declared.command.Task.{Task};
 ghost use Rattle.session_lines.specs.Cut.{lines_of};
-ghost use Rattle.session_lines.specs.Session.{IsSession, session_of_text, lines_limit};
+ghost use Rattle.session_lines.specs.Session.{IsSession, lines_limit};
 ghost use Rattle.session_lines.specs.Words.{bad_line, many_line};
-ghost use Rattle.session_lines.specs.Report.{session_counts, line_text};
-ghost use Rattle.session_replay.specs.Making.{Makes};
-ghost use Rattle.session_replay.specs.Queries.{IsReport};
+ghost use Rattle.session_more.specs.Decoding.{headed, more_session_of_text};
+ghost use Rattle.session_more.specs.Reports.{more_line_text, more_session_counts};
+ghost use Rattle.session_more.specs.declared.session.MoreSession.{MoreSession};
+ghost use Rattle.session_work.specs.Making.{Makes};
+ghost use Rattle.session_replay.specs.Replies.{IsReport};
 ghost use Rattle.session_replay.specs.Replay.{Does, Ends, IsOutput, IsPrepared, IsReady, IsWritten, PreparesSource, RespondsToSource, Writes, large_line, migrates, refusal, usage_line};
-ghost use Rattle.session_lines.specs.declared.session.Session.{Session};
 ghost use Rattle.session_lines.specs.declared.fault.Word.{Word};
 ghost use Rattle.session_lines.specs.declared.fault.DecodeFault.{DecodeFault};
 
 use crate::OutOfMemory;
 use crate::beside::report_beside;
-use crate::making::make;
 use crate::outside::{Failed, Sink, Source};
-use crate::replay::report;
 use crate::traffic::{InputFault, read_all, write_all};
 use command_words::{Command, Task, command_of};
 use query_workers::Gate;
-use session_lines::{DecodeFault, Report, Session, Word, decode, write_line};
+use session_more::{DecodeFault, MoreReport, MoreSession, Word, decode, write_line};
+use session_work::{make, report};
 use session_writer::migrate;
 use std::alloc::Global;
 use std::sync::Wait;
@@ -68,11 +69,11 @@ fn bad_line(alloc: Global, line: u64, word: Word) -> Result<String, OutOfMemory>
 }
 
 /// The line with what is counted of a session.
-fn check(alloc: Global, session: &Session) -> Result<Vec<u8>, OutOfMemory>
-    ensures { IfOk result (λ v. v.items ≡ line_text (session_counts session.now)) }
+fn check(alloc: Global, session: &MoreSession) -> Result<Vec<u8>, OutOfMemory>
+    ensures { IfOk result (λ v. v.items ≡ more_line_text (more_session_counts session.now)) }
 {
     let mut line = Vec::new(alloc);
-    write_line(alloc, &mut line, &Report::check_line(session))?;
+    write_line(alloc, &mut line, &MoreReport::check_line(session))?;
     Ok(line)
 }
 
@@ -82,12 +83,12 @@ pub enum Prepared {
     /// The status, and the text to be written.
     Response { status: Status, text: Vec<u8> },
     /// A session to be worked beside at least one worker.
-    Beside { workers: u32, session: Session },
+    Beside { workers: u32, session: MoreSession },
 }
 
 /// The report of a session, each query answered on the spot, as any number of workers may answer it. The gate is not called.
-fn plain_report(alloc: Global, workers: u32, session: Session) -> Result<Vec<u8>, OutOfMemory>
-    requires { IsSession session_limit session }
+fn plain_report(alloc: Global, workers: u32, session: MoreSession) -> Result<Vec<u8>, OutOfMemory>
+    requires { IsSession session_limit (headed session) }
     ensures { IfOk result (λ v. IsReport session workers v.items) }
 {
     let _workers = workers;
@@ -95,9 +96,9 @@ fn plain_report(alloc: Global, workers: u32, session: Session) -> Result<Vec<u8>
 }
 
 /// What a task that does not migrate writes for a session where nobody waits.
-fn plain_output(alloc: Global, task: Task, session: Session) -> Result<Vec<u8>, OutOfMemory>
+fn plain_output(alloc: Global, task: Task, session: MoreSession) -> Result<Vec<u8>, OutOfMemory>
     requires task { migrates task ≡ false }
-    requires session { IsSession session_limit session }
+    requires session { IsSession session_limit (headed session) }
     ensures { IfOk result (λ v. (input : List ℕ) → Writes task input session v.items) }
 {
     match task {
@@ -108,12 +109,12 @@ fn plain_output(alloc: Global, task: Task, session: Session) -> Result<Vec<u8>, 
 }
 
 /// A response to a session.
-fn respond_plainly(alloc: Global, task: Task, session: Session) -> Result<Prepared, OutOfMemory>
+fn respond_plainly(alloc: Global, task: Task, session: MoreSession) -> Result<Prepared, OutOfMemory>
     requires task { migrates task ≡ false }
-    requires session { IsSession session_limit session }
+    requires session { IsSession session_limit (headed session) }
     ensures ready { IfOk result IsReady }
     ensures prepared { IfOk result (λ p. (input : List ℕ) → length input ≤ session_limit
-        → session_of_text (migrates task) input ≡ Ok session → IsPrepared task input p) }
+        → more_session_of_text (migrates task) input ≡ Ok session → IsPrepared task input p) }
 {
     let text = plain_output(alloc, task, session)?;
     Ok(Prepared::Response {
@@ -123,12 +124,12 @@ fn respond_plainly(alloc: Global, task: Task, session: Session) -> Result<Prepar
 }
 
 /// What a session comes to where nobody waits.
-fn prepare_session(alloc: Global, task: Task, session: Session) -> Result<Prepared, OutOfMemory>
+fn prepare_session(alloc: Global, task: Task, session: MoreSession) -> Result<Prepared, OutOfMemory>
     requires task { migrates task ≡ false }
-    requires session { IsSession session_limit session }
+    requires session { IsSession session_limit (headed session) }
     ensures ready { IfOk result IsReady }
     ensures prepared { IfOk result (λ p. (input : List ℕ) → length input ≤ session_limit
-        → session_of_text (migrates task) input ≡ Ok session → IsPrepared task input p) }
+        → more_session_of_text (migrates task) input ≡ Ok session → IsPrepared task input p) }
 {
     match task {
         Task::Replay { workers } if workers > 0 => Ok(Prepared::Beside { workers, session }),
@@ -154,7 +155,7 @@ fn refusal(alloc: Global, fault: DecodeFault) -> Result<(Status, Vec<u8>), OutOf
 fn respond_to_fault(alloc: Global, fault: DecodeFault) -> Result<Prepared, OutOfMemory>
     ensures ready { IfOk result IsReady }
     ensures prepared { IfOk result (λ p. (task : Task) → (input : List ℕ)
-        → length input ≤ session_limit → session_of_text (migrates task) input ≡ Err fault
+        → length input ≤ session_limit → more_session_of_text (migrates task) input ≡ Err fault
         → IsPrepared task input p) }
 {
     let (status, text) = refusal(alloc, fault)?;
@@ -297,7 +298,7 @@ fn work<R: Threads + Wait + Sync, I: Source, O: Sink, G: Gate>(
         (I.ends src.old) (I.ends src.new) input
         × (length input ≤ session_limit)
         × ((n : ℕ) × (w : Word)
-        × (session_of_text (migrates task) input ≡ Err (DecodeFault.Bad n w))
+        × (more_session_of_text (migrates task) input ≡ Err (DecodeFault.Bad n w))
         × Appends (O.written out.old) (O.written out.new) (bad_line n w)) }
     ensures ended { (result ≡ Status.Done) ⊎ (result ≡ Status.Session)
         → Rose (I.ends src.old) (I.ends src.new) }
@@ -323,12 +324,12 @@ fn work<R: Threads + Wait + Sync, I: Source, O: Sink, G: Gate>(
     ensures completes { (Rose (I.faults src.old) (I.faults src.new) → ⊥)
         → (Rose (O.faults out.old) (O.faults out.new) → ⊥)
         → IfSome (I.left src.old) (λ input. length input ≤ session_limit
-        → (s : Session) → session_of_text (migrates task) input ≡ Ok s
+        → (s : MoreSession) → more_session_of_text (migrates task) input ≡ Ok s
         → (result ≡ Status.Done) ⊎ (result ≡ Status.Memory)) }
     ensures refuses { (Rose (I.faults src.old) (I.faults src.new) → ⊥)
         → (Rose (O.faults out.old) (O.faults out.new) → ⊥)
         → IfSome (I.left src.old) (λ input. (session_limit < length input)
-        ⊎ ((e : DecodeFault) × (session_of_text (migrates task) input ≡ Err e))
+        ⊎ ((e : DecodeFault) × (more_session_of_text (migrates task) input ≡ Err e))
         → (result ≡ Status.Session) ⊎ ((result ≡ Status.TooLarge) ⊎ (result ≡ Status.Memory))) }
 {
     match respond_to_source(rt, alloc, gate, task, src) {
@@ -339,7 +340,7 @@ fn work<R: Threads + Wait + Sync, I: Source, O: Sink, G: Gate>(
 }
 
 /// Makes a session, and writes its summary.
-#[tactic(auto, using(crate::proofs::Rounds::makes))]
+#[tactic(auto, using(session_work::proofs::Rounds::makes))]
 fn make_session<O: Sink>(alloc: Global, seed: u32, replicas: u16, edits: u32, out: &mut O) -> Status
     requires some { 1 ≤ replicas }
     requires few { replicas ≤ 16 }
@@ -409,7 +410,7 @@ pub fn run<R: Threads + Wait + Sync, I: Source, O: Sink, G: Gate>(
         (I.ends src.old) (I.ends src.new) input
         × (length input ≤ session_limit)
         × ((n : ℕ) × (w : Word)
-        × (session_of_text (migrates task) input ≡ Err (DecodeFault.Bad n w))
+        × (more_session_of_text (migrates task) input ≡ Err (DecodeFault.Bad n w))
         × Appends (O.written out.old) (O.written out.new) (bad_line n w))) }
     ensures ended { (result ≡ Status.Done) ⊎ (result ≡ Status.Session)
         → (task : Task) → command_of words.now ≡ Some (Command.Read task)
@@ -454,13 +455,13 @@ pub fn run<R: Threads + Wait + Sync, I: Source, O: Sink, G: Gate>(
         → (Rose (O.faults out.old) (O.faults out.new) → ⊥)
         → (task : Task) → command_of words.now ≡ Some (Command.Read task)
         → IfSome (I.left src.old) (λ input. length input ≤ session_limit
-        → (s : Session) → session_of_text (migrates task) input ≡ Ok s
+        → (s : MoreSession) → more_session_of_text (migrates task) input ≡ Ok s
         → (result ≡ Status.Done) ⊎ (result ≡ Status.Memory)) }
     ensures refuses { (Rose (I.faults src.old) (I.faults src.new) → ⊥)
         → (Rose (O.faults out.old) (O.faults out.new) → ⊥)
         → (task : Task) → command_of words.now ≡ Some (Command.Read task)
         → IfSome (I.left src.old) (λ input. (session_limit < length input)
-        ⊎ ((e : DecodeFault) × (session_of_text (migrates task) input ≡ Err e))
+        ⊎ ((e : DecodeFault) × (more_session_of_text (migrates task) input ≡ Err e))
         → (result ≡ Status.Session) ⊎ ((result ≡ Status.TooLarge) ⊎ (result ≡ Status.Memory))) }
 {
     let command = match command_of(alloc, words) {

@@ -2,7 +2,8 @@
 ghost use Rattle.std.specs.Prelude.{◌≡◌, ◌<◌, ◌≤◌, ◌+◌, ◌^◌, ℕ, List, length, IfOk, IfSome, OnOk, OnErr, IsErrOf, vec_len};
 ghost use Rattle.std.specs.Io.KnownBytes.{Appends};
 ghost use Rattle.session_replay.specs.Causes.{HasCause, Rose, RoseBy};
-ghost use Rattle.session_replay.specs.Traffic.{AppendsFront, Counts, Had, Moves, WasRead, session_limit};
+ghost use Rattle.session_work.specs.Work.{session_limit};
+ghost use Rattle.session_replay.specs.Traffic.{AppendsFront, Counts, Had, Moves, WasRead};
 ghost use Rattle.session_replay.specs.declared.traffic.InputFault.{InputFault};
 
 use crate::{Failed, OutOfMemory, Sink, Source};

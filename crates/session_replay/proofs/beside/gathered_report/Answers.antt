@@ -3,8 +3,8 @@ use Rattle.std.specs.List.{flat_map}
 use Rattle.std.proofs.lemmas.Result.{IfOk-weaker}
 use Rattle.session_lines.specs.Report.{report_text}
 use Rattle.query_dispatch.specs.Final.{AreGathered}
-use Rattle.session_replay.specs.Work.{at_end}
-use Rattle.session_replay.specs.Queries.{plain_answer}
+use Rattle.session_work.specs.Work.{at_end}
+use Rattle.session_work.specs.Queries.{plain_answer}
 use Rattle.session_replay.proofs.Leaving.{can_gather, same_length}
 use Rattle.session_replay.proofs.beside.gathered_report.Goals as goal
 
@@ -20,5 +20,5 @@ returns g c = λ asks d left.
       made,
       subst (λ lasts. AreGathered plain_answer (length d.inboxes) lasts asks made) (c.as_slice.ensures.value ∙ c.in_ok-lasts.ensures)
           (subst (λ n. AreGathered plain_answer n c.as_slice.result.now asks made) (same_length c.args.edited.gathering.inboxes.items d.inboxes left.queues) gathered),
-      is ∙ ap (λ rs. (c.args.edited.progress.report.items ++ report_text rs) ++ report_text (flat_map at_end c.args.edited.progress.exchange.buffers)) (c.as_slice-2.ensures.value ∙ c.in_ok-lines.ensures),
+      is ∙ ap (λ rs. (c.args.edited.progress.plain.report.items ++ report_text rs) ++ report_text (flat_map at_end c.args.edited.progress.plain.exchange.buffers)) (c.as_slice-2.ensures.value ∙ c.in_ok-lines.ensures),
     )) c.finish.ensures

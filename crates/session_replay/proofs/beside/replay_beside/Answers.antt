@@ -1,38 +1,27 @@
-use Rattle.std.proofs.Common.{map, refl, ap, ◌∙◌}
+use Rattle.std.proofs.Common.{refl, ap, ◌∙◌}
 use Rattle.std.proofs.lemmas.Result.{IfOk-weaker}
-use Rattle.text_buffer.specs.Buffer.{base_under}
-use Rattle.session_replay.specs.Work.{base_of, first_buffer}
-use Rattle.session_replay.proofs.Opening.{are_past, can_edit, is_report, opened_state}
+use Rattle.session_work.specs.MoreWork.{MoreState}
+use Rattle.session_replay.proofs.Opening.{are_past, can_edit, is_report}
 use Rattle.session_replay.proofs.beside.replay_beside.Goals as goal
 
 pub edit_beside-requires-after_bounds : goal.edit_beside-requires-after_bounds
 edit_beside-requires-after_bounds g c κs within =
     let s = c.args.session in
-    let p = c.in_ok-progress.ensures in
-    let start = p.buffers ∙ ap (λ base. map (first_buffer (base_under c.endings.result base)) c.as_slice.result.now) c.as_str.ensures
-    ∙ ap (λ e. map (first_buffer (base_under e s.base)) c.as_slice.result.now) c.endings.ensures ∙ ap (map (first_buffer (base_of s))) c.as_slice.ensures in
+    let start = ap (λ (u : MoreState). u.plain.buffers) c.in_ok-progress.ensures.state in
     let made = c.in_ok-dispatcher.ensures in
     can_edit s c.requires.session _ c.open_desks.new.publishers start c.args.workers c.query_count-limit.result c.into_queue-lines.result c.into_queue-lines.ensures refl (made.count ∙ c.requires.none.0) c.query_count-limit.ensures
     made.asked.0 made.asked.1 made.level made.tied (made.published ∙ c.in_ok-firsts.ensures)
 
 pub gathered_report-requires-after_bounds : goal.gathered_report-requires-after_bounds
 gathered_report-requires-after_bounds g c κs within =
-    let s = c.args.session in
-    let p = c.in_ok-progress.ensures in
-    let start = p.buffers ∙ ap (λ base. map (first_buffer (base_under c.endings.result base)) c.as_slice.result.now) c.as_str.ensures
-    ∙ ap (λ e. map (first_buffer (base_under e s.base)) c.as_slice.result.now) c.endings.ensures ∙ ap (map (first_buffer (base_of s))) c.as_slice.ensures in
-    let begins = opened_state s c.in_ok-progress.progress start p.operations p.anchors p.marks in
     let done = c.in_ok-edited.ensures in
-    (_, _, _, done.edited.left, are_past s c.into_queue-lines.result c.into_queue-lines.ensures _ _ done.edited begins, c.in_ok-dispatcher.ensures.ends, done.worked)
+    (_, _, _, done.edited.left, are_past c.args.session c.into_queue-lines.result c.into_queue-lines.ensures _ _ done.edited c.in_ok-progress.ensures.state, c.in_ok-dispatcher.ensures.ends, done.worked)
 
 pub returns : goal.returns
 returns g c =
     let s = c.args.session in
     let p = c.in_ok-progress.ensures in
-    let start = p.buffers ∙ ap (λ base. map (first_buffer (base_under c.endings.result base)) c.as_slice.result.now) c.as_str.ensures
-    ∙ ap (λ e. map (first_buffer (base_under e s.base)) c.as_slice.result.now) c.endings.ensures ∙ ap (map (first_buffer (base_of s))) c.as_slice.ensures in
-    let begins = opened_state s c.in_ok-progress.progress start p.operations p.anchors p.marks in
     let done = c.in_ok-edited.ensures.edited in
     IfOk-weaker c.gathered_report.result _ _
-    (λ v t. is_report s c.into_queue-lines.result c.into_queue-lines.ensures _ _ done begins c.args.workers c.requires.some (c.in_ok-dispatcher.ensures.count ∙ c.requires.none.0) p.report t.0 t.1 v.items t.2)
+    (λ v t. is_report s c.into_queue-lines.result c.into_queue-lines.ensures _ _ done p.state c.args.workers c.requires.some (c.in_ok-dispatcher.ensures.count ∙ c.requires.none.0) p.report t.0 t.1 v.items t.2)
     (c.gathered_report.ensures _ _ done.left)

@@ -1,6 +1,6 @@
 use Rattle.std.proofs.Common.{sym, subst}
 use Rattle.std.proofs.lemmas.Result.{IfOk-weaker}
-use Rattle.session_replay.specs.Queries.{IsReport}
+use Rattle.session_replay.specs.Replies.{IsReport}
 use Rattle.session_replay.proofs.Replies.{plain_report}
 use Rattle.session_replay.proofs.top.plain_report.Goals as goal
 

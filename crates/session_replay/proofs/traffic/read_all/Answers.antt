@@ -1,5 +1,5 @@
 use Rattle.std.proofs.Common.{arith}
-use Rattle.session_replay.specs.Traffic.{session_limit}
+use Rattle.session_work.specs.Work.{session_limit}
 use Rattle.session_replay.proofs.Moved.{some_input}
 use Rattle.session_replay.proofs.traffic.read_all.Goals as goal
 

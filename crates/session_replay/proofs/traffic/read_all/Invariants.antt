@@ -1,7 +1,7 @@
 use Rattle.std.proofs.Common.{◌≡◌, ◌+◌, ◌-◌, ◌≤◌, vec_len}
 use Rattle.std.specs.Io.KnownBytes.{Consumes}
 use Rattle.session_replay.specs.Causes.{saturating_sum}
-use Rattle.session_replay.specs.Traffic.{session_limit}
+use Rattle.session_work.specs.Work.{session_limit}
 use Rattle.session_replay.proofs.traffic.read_all.Given as goal
 
 abbrev pub invariant-loop-all : goal.invariant-loop-all

@@ -1,5 +1,0 @@
-use Rattle.session_replay.proofs.Growth.{grown_by_take}
-use Rattle.session_replay.proofs.replica.Replica.take.Goals as goal
-
-pub returns-clause-grows : goal.returns-clause-grows
-returns-clause-grows c = grown_by_take c.take.result c.args.operation c.args.self.now c.self.inside.buffer c.take.new.self (cc c.self.view_is) c.take.ensures.new c.take.ensures.stopped

@@ -1,0 +1,13 @@
+pub mod Names
+pub mod Work
+pub mod Queries
+pub mod MoreWork
+pub mod MoreQueries
+pub mod ReplicaId
+pub mod Later
+pub mod Exchange
+pub mod ExchangeInside
+pub mod Working
+pub mod Making
+pub mod MakingOn
+pub mod ReplicaIndices
