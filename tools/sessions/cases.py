@@ -94,7 +94,9 @@ def unexplained(case: Case) -> Iterator[str]:
     if explanation.bad and f"  {explanation.bad.word}: " not in said:
         yield f"{case.name}: {explanation.bad} is not explained"
     for event in explanation.replay.events if explanation.replay else ():
-        if event.answer and event.answer.word != "applied" and f"  {event.answer}: " not in said:
+        if not event.answer or event.answer.word in ("applied", "set"):
+            continue
+        if f"  {event.answer}: " not in said:
             yield f"{case.name}: {event.said[0]} is not explained"
 
 

@@ -16,7 +16,10 @@ ACCEPTED = {
     "replica": "a replica of the header, or a header with that replica",
     "number": "the number of an operation line before this one, counted from 1",
     "cr": "texts without CR, or a session of version 2 already",
-    "name": "a name that an earlier line keeps: one of `anchor` lines for `where`, of `mark` for `since`",
+    "name": (
+        "a name that an earlier line keeps: one of `anchor` lines for `where`, of `mark` for `since`, "
+        "of `select` for `share`"
+    ),
     "too large: bytes": "at most 67,108,864 bytes",
     "too large: lines": "at most 1,048,576 lines",
 }

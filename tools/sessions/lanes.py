@@ -173,6 +173,10 @@ class Lanes:
             for start, end in event.ranges:
                 parts += marker(row.laid, start, end, lane.left, base)
             parts += laid_text(row.laid, self.colours, lane.left, base)
+            if isinstance(event.line, (kinds.SelectLine, kinds.SelectedLine)):
+                for start, end in event.ranges:
+                    if start == end:
+                        parts.append(caret(row.laid, start, "right", lane.left, base))
             if event.offset is not None:
                 parts.append(caret(row.laid, event.offset, event.side, lane.left, base))
         return parts

@@ -5,6 +5,7 @@ from dataclasses import dataclass
 from typing import Union
 
 Ranges = tuple[tuple[int, int, str], ...]
+Spans = tuple[tuple[int, int], ...]
 
 
 @dataclass(frozen=True)
@@ -122,6 +123,31 @@ class ReopenLine:
     replica: int
 
 
+@dataclass(frozen=True)
+class SelectLine:
+    """A replica selects ranges of its text, and what it makes of them is kept under a name. Version 2 has it alone."""
+
+    replica: int
+    name: str
+    ranges: Spans
+
+
+@dataclass(frozen=True)
+class ShareLine:
+    """A replica takes the selections under a name. Version 2 has it alone."""
+
+    replica: int
+    name: str
+
+
+@dataclass(frozen=True)
+class SelectedLine:
+    """Where an author's selections are in a replica's text is reported. Version 2 has it alone."""
+
+    replica: int
+    author: int
+
+
 Line = Union[
     EditLine,
     UndoLine,
@@ -137,6 +163,9 @@ Line = Union[
     PointLine,
     OffsetLine,
     ReopenLine,
+    SelectLine,
+    ShareLine,
+    SelectedLine,
 ]
 OPERATION_LINES = (EditLine, UndoLine, OpLine, UopLine)
 QUERY_LINES = (FindLine, PointLine, OffsetLine)

@@ -87,6 +87,10 @@ def _line_number(value: Any) -> int:
     return _number(value, "the number of the operation line", U64)
 
 
+def _author(value: Any) -> int:
+    return _number(value, "the author", U16)
+
+
 def _side(value: Any) -> str:
     if value not in ("left", "right"):
         raise _Wrong('the last member is neither "left" nor "right"')
@@ -128,6 +132,18 @@ def _piece(at: int, value: Any) -> tuple[int, int, str]:
         _number(start, f"the start of piece {at}", U64),
         _number(end, f"the end of piece {at}", U64),
         _string(text, f"the text of piece {at}"),
+    )
+
+
+def _spans(value: Any) -> kinds.Spans:
+    return tuple(_span(at, span) for at, span in enumerate(_members(value, "the list of ranges")))
+
+
+def _span(at: int, value: Any) -> tuple[int, int]:
+    start, end = _members(value, f"range {at}", 2)
+    return (
+        _number(start, f"the start of range {at}", U64),
+        _number(end, f"the end of range {at}", U64),
     )
 
 
@@ -184,6 +200,9 @@ FORMS: dict[str, Form] = {
 FORMS_OF_2: dict[str, Form] = {
     **FORMS,
     "reopen": Form(kinds.ReopenLine, (_replica,), '["reopen",r]'),
+    "select": Form(kinds.SelectLine, (_replica, _name, _spans), '["select",r,"name",[[s,e],..]]'),
+    "share": Form(kinds.ShareLine, (_replica, _name), '["share",r,"name"]'),
+    "selected": Form(kinds.SelectedLine, (_replica, _author), '["selected",r,a]'),
 }
 """The forms of lines of a session of version 2."""
 
@@ -229,6 +248,7 @@ class _Earlier:
         self.replicas, self.operations = replicas, 0
         self.anchors: set[str] = set()
         self.marks: set[str] = set()
+        self.selects: set[str] = set()
 
     def fault(self, line: kinds.Line) -> tuple[str, str] | None:
         """The word for what a line of a good shape names that is not there, and the reason."""
@@ -252,6 +272,11 @@ class _Earlier:
                 "name",
                 f'no mark line before it has the name "{line.name}"; {_names(self.marks)}',
             )
+        if isinstance(line, kinds.ShareLine) and line.name not in self.selects:
+            return (
+                "name",
+                f'no select line before it has the name "{line.name}"; {_names(self.selects)}',
+            )
         return None
 
     def add(self, line: kinds.Line) -> None:
@@ -261,6 +286,8 @@ class _Earlier:
             self.anchors.add(line.name)
         elif isinstance(line, kinds.MarkLine):
             self.marks.add(line.name)
+        elif isinstance(line, kinds.SelectLine):
+            self.selects.add(line.name)
 
     def _numbers(self) -> str:
         return f"there are 1 to {self.operations}" if self.operations else "there is none at all"

@@ -18,6 +18,7 @@ from .operations import (
 )
 from .replay import Event, Replay
 from .replicas import Answer
+from .selections import MOST_RANGES, unknown_range
 
 
 class Reason(NamedTuple):
@@ -271,6 +272,12 @@ def event_reason(replay: Replay, event: Event) -> Reason | None:
         return fault_reason(Fault(replay, line.replica, event.history, line, event.answer))
     if isinstance(line, kinds.GiveLine):
         return _give_reason(replay, event, line)
+    if isinstance(line, kinds.SelectLine):
+        return _select_reason(event, line)
+    if isinstance(line, kinds.ShareLine):
+        return _share_reason(event, line)
+    if isinstance(line, kinds.SelectedLine):
+        return _selected_reason(event, line)
     return _asked_reason(event, event.history)
 
 
@@ -325,6 +332,61 @@ def _asked_reason(event: Event, history: History) -> Reason | None:
         near = answer.split(" ")[1:]
         return Reason(answer, says, f"the nearest positions are {near[0]} and {near[1]}")
     return None
+
+
+def _select_reason(event: Event, line: kinds.SelectLine) -> Reason | None:
+    """Why ranges are not selected."""
+    answer = event.answer
+    if answer is None:
+        return None
+    assert event.history is not None
+    word, text = str(answer), event.history.text
+    if answer.word == "toomany":
+        says = f"the line has {len(line.ranges)} ranges"
+        return Reason(word, says, f"at most {MOST_RANGES} ranges")
+    if answer.word == "clockend":
+        says = f"the clock of what replica {line.replica} selects is at {LAST_VALUE}, its end"
+        return Reason(word, says, "a line of a replica that has not taken such a stamp")
+    at = answer.numbers[0]
+    assert isinstance(at, int)
+    start, end = line.ranges[at]
+    if answer.word == "reversed":
+        says = f"range {at} starts at {start}, past its end {end}"
+        return Reason(word, says, "a start up to the end")
+    place = end if answers.clip(text, start, -1) == start or end > len(text) else start
+    reason = _place_reason(word, place, text)
+    return Reason(word, f"of range {at}, {reason.says}", reason.accepted)
+
+
+def _share_reason(event: Event, line: kinds.ShareLine) -> Reason | None:
+    """Why selections are not taken."""
+    answer, shared = event.answer, event.selections
+    assert answer is not None
+    if answer.word == "set":
+        return None
+    if shared is None:
+        says = f'each select line with the name "{line.name}" before it was refused'
+        return Reason("nothing", says, "a select line of ranges of the text")
+    author = shared.stamp.replica
+    if answer.word == "repeat":
+        says = f"replica {line.replica} keeps {shared.stamp} of author {author} already"
+        return Reason("repeat", says, "nothing else is wanted; a repeat changes nothing")
+    assert answer.word == "old", "no two selections of a session have one stamp"
+    says = f"replica {line.replica} keeps {answer.numbers[0]}, which is later than {shared.stamp}"
+    return Reason(str(answer), says, "nothing else is wanted; what is older changes nothing")
+
+
+def _selected_reason(event: Event, line: kinds.SelectedLine) -> Reason | None:
+    """Why an author's selections have no places."""
+    if event.selections is None:
+        says = f"replica {line.replica} keeps no selections of {line.author}"
+        return Reason("none", says, "the line after a share of what that author selected")
+    assert event.history is not None
+    at = unknown_range(event.history, event.selections)
+    if at is None:
+        return None
+    says = f"range {at} keeps to a byte that replica {line.replica} does not have"
+    return Reason(f"unknown {at}", says, "the line after a give of the operation with that byte")
 
 
 def _place_reason(answer: str, offset: int, text: bytes) -> Reason:

@@ -9,6 +9,7 @@ from .histories import History, history_of
 from .json_values import write_string
 from .operations import Edit, Operation, Piece, Stamp, Undo, Version
 from .replicas import Answer, Replica
+from .selections import Selections, Sets, places_of, unknown_range
 
 
 @dataclass
@@ -42,7 +43,9 @@ class Event:
     mark: Version | None = None
     """The version that a `since` line names."""
     ranges: tuple[tuple[int, int], ...] = ()
-    """The ranges of the text that a `find` or `since` line speaks of."""
+    """The ranges of the text that a line speaks of: found, changed since a mark, or selected. An empty one is a caret."""
+    selections: Selections | None = None
+    """What a `select` line makes, or a `share` or `selected` line speaks of."""
 
 
 @dataclass(frozen=True)
@@ -65,6 +68,8 @@ class Replay:
         self.operations: list[Operation | None] = []
         self.anchors: dict[str, Anchor] = {}
         self.marks: dict[str, Version] = {}
+        self.sets = {number: Sets(number) for number in session.header.replicas}
+        self.selects: dict[str, Selections] = {}
         self.queries: list[Query] = []
         self.events = [self._event(place, line) for place, line in enumerate(session.lines, 2)]
 
@@ -82,6 +87,9 @@ class Replay:
             kinds.MarkLine: self._mark,
             kinds.SinceLine: self._since,
             kinds.ReopenLine: self._reopen,
+            kinds.SelectLine: self._select,
+            kinds.ShareLine: self._share,
+            kinds.SelectedLine: self._selected,
         }
         replica = self.replicas.get(event.replica or 0)
         before = (len(replica.applied), len(replica.refused)) if replica else (0, 0)
@@ -187,6 +195,40 @@ class Replay:
         replica = self.replicas[event.replica or 0]
         replica.reopen()
         event.said.append(f"reopen {event.replica}: {len(replica.applied) - 1}")
+
+    def _select(self, event: Event) -> None:
+        assert isinstance(event.line, kinds.SelectLine)
+        history = self.replicas[event.line.replica].history
+        result = self.sets[event.line.replica].set(history, event.line.ranges)
+        if isinstance(result, Answer):
+            event.answer, said = result, str(result)
+        else:
+            event.selections, event.ranges = result, event.line.ranges
+            self.selects[event.line.name], said = result, str(result.stamp)
+        event.said.append(f"select {write_string(event.line.name)}: {said}")
+
+    def _share(self, event: Event) -> None:
+        assert isinstance(event.line, kinds.ShareLine)
+        event.selections = self.selects.get(event.line.name)
+        if event.selections is None:
+            event.answer = Answer("nothing")
+        else:
+            event.answer = self.sets[event.line.replica].take(event.selections)
+        said = f"share {write_string(event.line.name)} to {event.replica}: {event.answer}"
+        event.said.append(said)
+
+    def _selected(self, event: Event) -> None:
+        assert isinstance(event.line, kinds.SelectedLine)
+        history = self.replicas[event.line.replica].history
+        event.selections, said = self.sets[event.line.replica].kept.get(event.line.author), "none"
+        if event.selections:
+            unknown = unknown_range(history, event.selections)
+            if unknown is None:
+                event.ranges = tuple(places_of(history, event.selections))
+                said = ", ".join(f"{start}..{end}" for start, end in event.ranges) or "empty"
+            else:
+                said = f"unknown {unknown}"
+        event.said.append(f"selected {event.line.author} at {event.replica}: {said}")
 
     def _query(self, event: Event) -> None:
         event.number = len(self.queries) + 1

@@ -31,6 +31,14 @@ def pieces_words(pieces: kinds.Ranges) -> str:
     return ", ".join(words) or "no piece"
 
 
+def spans_words(spans: kinds.Spans) -> str:
+    """The ranges, the first six of them."""
+    words = [f"{start}..{end}" for start, end in spans[:6]]
+    if len(spans) > 6:
+        words.append(f"and {len(spans) - 6} more")
+    return ", ".join(words) or "nothing"
+
+
 def version_words(version: dict[int, int]) -> str:
     """What a version sees."""
     return "sees " + (
@@ -129,6 +137,15 @@ def _asked_head(event: Event) -> Head:
         return Head(f"find {quoted(line.needle)}: {answer}", MUTED)
     if isinstance(line, kinds.ReopenLine):
         return Head("opened again with what it has applied", MUTED)
+    if isinstance(line, kinds.SelectLine):
+        return Head(
+            f"selects {spans_words(line.ranges)} as {quoted(line.name)}: {answer}",
+            RED if event.answer else MUTED,
+        )
+    if isinstance(line, kinds.ShareLine):
+        return Head(f"takes what is selected as {quoted(line.name)}: {answer}", MUTED)
+    if isinstance(line, kinds.SelectedLine):
+        return Head(f"what author {line.author} has selected: {answer}", MUTED)
     if isinstance(line, kinds.PointLine):
         return Head(f"point {line.offset}: {answer}", MUTED)
     assert isinstance(line, kinds.OffsetLine)
