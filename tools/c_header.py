@@ -32,9 +32,9 @@ HEAD = """\
  *    calls of several threads;
  *  - malloc, realloc and free, which these calls use, are of one allocator.
  *
- * Offsets and lengths are in bytes of UTF-8. No call gives memory that is to be freed: the caller hands in room, and is
- * told the whole length; where the room is too small, the front that fits is written. Each call but the closing ones
- * answers a code with up to three numbers. After an answer other than ZEDBUF_DONE the buffer is as before the call,
+ * Offsets and lengths are in bytes of UTF-8. No call gives memory that is to be freed: the caller hands in room, and the
+ * answer has the whole length; where the room is too small, the front that fits is written. Each call but the closing
+ * ones answers a code with up to three numbers. After an answer other than ZEDBUF_DONE the buffer is as before the call,
  * except where its comment says more.
  */
 #ifndef ZEDBUF_H
