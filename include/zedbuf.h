@@ -7,13 +7,13 @@
  *    and it is not copied;
  *  - a pointer is not null, also where its length is 0; it has as many bytes or members as its length or room says, and
  *    no other running call has them;
- *  - one call at a time on one handle, from whatever thread; each call has its writes seen by the next one on it, as a
- *    mutex or a join of threads sees to;
+ *  - one call at a time on one handle, from whatever thread; a lock, or the start or the join of a thread, orders the
+ *    calls of several threads;
  *  - malloc, realloc and free, which these calls use, are of one allocator.
  *
- * Offsets and lengths are in bytes of UTF-8. No call gives memory that is to be freed: the caller hands in room, and is
- * told the whole length; where the room is too small, the front that fits is written. Each call but the closing ones
- * answers a code with up to three numbers. After an answer other than ZEDBUF_DONE the buffer is as before the call,
+ * Offsets and lengths are in bytes of UTF-8. No call gives memory that is to be freed: the caller hands in room, and the
+ * answer has the whole length; where the room is too small, the front that fits is written. Each call but the closing
+ * ones answers a code with up to three numbers. After an answer other than ZEDBUF_DONE the buffer is as before the call,
  * except where its comment says more.
  */
 #ifndef ZEDBUF_H

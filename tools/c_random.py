@@ -117,9 +117,10 @@ def look(draw, author):
     assert now.find(needle) == places, "a search"
     start, end = sorted(draw.choices(boundaries(text), k=2))
     assert now.text(start, end).encode() == text[start:end], "a part of the text"
-    anchors = [now.anchor(offset, draw.randint(0, 1)) for offset in (start, end)]
+    sides = [(start, draw.randint(0, 1)), (end, draw.randint(0, 1))]
+    anchors = [now.anchor(*side) for side in sides]
     assert [now.resolve(anchor) for anchor in anchors] == [start, end], "an anchor"
-    assert now.compare(*anchors) <= 0, "two anchors"
+    assert now.compare(*anchors) == (sides[0] > sides[1]) - (sides[0] < sides[1]), "two anchors"
     for version, past in draw.sample(author.pasts, min(2, len(author.pasts))):
         assert now.text_at(version).encode() == past, "the text at a version"
         made, at = b"", 0
