@@ -60,7 +60,7 @@ use text_dims::TextSummary;
 /// - `take`: `edit_both` of `crates/embed/src/main.rt`; `settle` and `undo`: the functions of these names of
 ///   `crates/buffer_tests/src/steps.rt`; `forget`: `forget_newest` of `crates/buffer_tests/src/forgotten.rt`
 /// - `text` and `snapshot`: `show` of `crates/embed/src/main.rt`
-/// - `summary`, and `known`, which is for proofs: `text_len` of `crates/session_replay/src/replica.rt`
+/// - `summary`, and `known`, which is for proofs: `text_len` of `crates/session_work/src/replica.rt`
 /// - `version` and `applied`: `new_operation` of `crates/buffer_tests/src/groups.rt`; `deferred` and `refused`: `keeps` of
 ///   `crates/buffer_tests/src/steps.rt`
 #[derive(Drop)]
