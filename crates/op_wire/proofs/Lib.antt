@@ -10,3 +10,4 @@ pub mod Sizes
 pub mod Stages
 pub mod Streams
 pub mod Rows
+pub mod Whole

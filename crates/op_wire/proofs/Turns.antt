@@ -172,7 +172,7 @@ turns_join old next new a b before between after fits (inr (e, inr p)) q =
 
 -- ---- any number of feeds
 
-gathers : (old next new : Fed) (a : List ℕ) (pieces : List (List ℕ)) (before between after : List Operation) → IsBytes (old.rest ++ (a ++ concat pieces)) → Turn old a before between next → Turns next pieces between after new
+pub gathers : (old next new : Fed) (a : List ℕ) (pieces : List (List ℕ)) (before between after : List Operation) → IsBytes (old.rest ++ (a ++ concat pieces)) → Turn old a before between next → Turns next pieces between after new
     → Turn old (a ++ concat pieces) before after new
 gathers old next new a [] before between after fits t s =
     subst (λ (x : List ℕ). Turn old x before after new) (sym (append-nil a)) (subst (λ (x : Fed). Turn old a before after x) (sym s.0) (subst (λ (x : List Operation). Turn old a before x next) (sym s.1) t))
@@ -183,7 +183,7 @@ gathers old next new a (p ∷ ps) before between after fits t s =
     subst (λ (x : List ℕ). Turn old x before after new) e
     (gathers old s.1 new (a ++ p) ps before s.0 after all (turns_join old next s.1 a p before between s.0 front t s.2) s.3)
 
-begins : Turn fresh [] [] [] fresh
+pub begins : Turn fresh [] [] [] fresh
 unfolding record_at
 begins = inl (record { sound = refl; reads = record { ops = []; appended = refl; splits = record { whole = refl; each = tt } }; unfinished = refl; counted = refl; still = refl })
 

@@ -7,7 +7,7 @@ use Rattle.op_wire.specs.declared.fault.Word.{Word}
 use Rattle.op_wire.specs.declared.fault.Stop.{Stop}
 use Rattle.op_wire.specs.Spelling.{limit, spelling, HasSpelling}
 use Rattle.op_wire.specs.Reading.{IsBytes, record_at}
-use Rattle.op_wire.specs.Stream.{IsFaulty, Fed, fresh, Turn, Turns}
+use Rattle.op_wire.specs.Stream.{IsFaulty, Fed, finished, fresh, operations_of, operations_unless, Turn, Turns}
 
 -- ---- records
 
@@ -71,3 +71,25 @@ abbrev pub CutsDoNotMatter : Type 0
 CutsDoNotMatter = (pieces others : List (List ℕ)) → (after other : List Operation) → (new same : Fed)
     → IsBytes (concat pieces) → concat pieces ≡ concat others
     → Turns fresh pieces [] after new → Turns fresh others [] other same → (after ≡ other) × (new ≡ same)
+
+-- ---- whole streams
+
+-- a reader that is fed a whole stream, and then its end, comes to the operations of the stream, or to its first fault
+abbrev pub StreamsAreRead : Type 0
+StreamsAreRead = (bytes : List ℕ) → (ops : List Operation) → (reader : Fed) → Turn fresh bytes [] ops reader
+    → operations_of bytes ≡ operations_unless (finished reader) ops
+
+-- and so it does in whatever pieces the stream comes
+abbrev pub PiecesAreRead : Type 0
+PiecesAreRead = (pieces : List (List ℕ)) → (ops : List Operation) → (reader : Fed) → IsBytes (concat pieces)
+    → Turns fresh pieces [] ops reader → operations_of (concat pieces) ≡ operations_unless (finished reader) ops
+
+-- records one after the other are a stream of their operations
+abbrev pub RecordsAreStreams : Type 0
+RecordsAreStreams = (ops : List Operation) → AllByRecursion HasSpelling ops
+    → operations_of (flat_map spelling ops) ≡ Ok ops
+
+-- a stream that has no fault is the records of its operations
+abbrev pub StreamsAreRecords : Type 0
+StreamsAreRecords = (bytes : List ℕ) → (ops : List Operation) → IsBytes bytes → operations_of bytes ≡ Ok ops
+    → (bytes ≡ flat_map spelling ops) × AllByRecursion HasSpelling ops

@@ -1,14 +1,15 @@
 -- What a stream of records is read as, in whatever pieces it comes.
-use Rattle.std.specs.Prelude.{◌≡◌, ◌≤◌, ℕ, ◌+◌, ◌-◌, List, [], ◌∷◌, ◌++◌, ◌⊎◌, length, Option, Some, None, Result, Ok, Err}
+use Rattle.std.specs.Prelude.{◌≡◌, ◌≤◌, ℕ, ◌+◌, ◌-◌, List, [], ◌∷◌, ◌++◌, ◌⊎◌, length, zero, suc, Option, Some, None, Result, Ok, Err}
 use Rattle.std.specs.List.{flat_map, AllByRecursion}
 use Rattle.op_model.specs.declared.operation.Operation.{Operation}
 use Rattle.op_wire.specs.declared.fault.Word.{Word}
 use Rattle.op_wire.specs.declared.fault.Word.TheVariants.{Kind, Order, Zero, Long, Utf8}
 use Rattle.op_wire.specs.declared.fault.WireFault.{WireFault}
 use Rattle.op_wire.specs.declared.fault.WireFault.TheVariants as faults
+use Rattle.op_wire.specs.declared.fault.Stop.{Stop}
 use Rattle.op_wire.specs.declared.fault.Stop.TheVariants.{Short, Bad}
 use Rattle.op_wire.specs.Spelling.{spelling, HasSpelling}
-use Rattle.op_wire.specs.Reading.{record_at}
+use Rattle.op_wire.specs.Reading.{Read, record_at}
 
 -- the bytes are the records of these operations, and then a rest
 pub record Splits (bytes : List ℕ) (ops : List Operation) (rest : List ℕ) : Type 0 where
@@ -116,3 +117,37 @@ abbrev pub Turns : Fed → List (List ℕ) → List Operation → List Operation
 Turns old [] before after new = Stays old before new after
 Turns old (piece ∷ pieces) before after new =
     (between : List Operation) × (next : Fed) × Turn old piece before between next × Turns next pieces between after new
+
+-- ---- whole streams
+
+-- the fault of a stream of `size` bytes, of which the last `left` begin with no record: reading it stops here
+abbrev pub fault_of : ℕ → ℕ → Stop → WireFault
+fault_of size left Short = faults.Cut (size - left)
+fault_of size left (Bad word n) = fault_at word (size - n)
+
+-- an operation before those that follow it
+abbrev pub with_first : Operation → Result (List Operation) WireFault → Result (List Operation) WireFault
+with_first op (Ok ops) = Ok (op ∷ ops)
+with_first op (Err e) = Err e
+
+-- an operation and those that are read of the bytes after it; or the fault, where reading stops
+abbrev pub then_others
+    : (List ℕ → Result (List Operation) WireFault) → (Stop → WireFault) → Read Operation → Result (List Operation) WireFault
+then_others others fault (Ok first) = with_first first.0 (others first.1)
+then_others others fault (Err stop) = Err (fault stop)
+
+-- the operations of the last bytes of a stream of `size` bytes, n records at most
+abbrev pub operations_in : ℕ → ℕ → List ℕ → Result (List Operation) WireFault
+operations_in zero size bytes = Ok []
+operations_in (suc n) size [] = Ok []
+operations_in (suc n) size (b ∷ bytes) =
+    then_others (operations_in n size) (fault_of size (length (b ∷ bytes))) (record_at (b ∷ bytes))
+
+-- the operations of a stream of records, or its first fault. A record has a byte at least
+unfoldable pub operations_of : List ℕ → Result (List Operation) WireFault
+operations_of bytes = operations_in (length bytes) (length bytes) bytes
+
+-- the operations that were read, unless the stream may not end after them
+abbrev pub operations_unless : Result (Unit {0}) WireFault → List Operation → Result (List Operation) WireFault
+operations_unless (Err e) ops = Err e
+operations_unless (Ok u) ops = Ok ops

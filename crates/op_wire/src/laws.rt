@@ -1,5 +1,5 @@
 //! The laws of records and of streams, shown by functions that do nothing.
-ghost use Rattle.op_wire.specs.Laws.{SpelledIsRead, ReadIsSpelled, NonePrefixes, OneReading, FaultsStay, StopsHaveNone, VersionsAreShort, OneSplit, TurnsAgree, TurnsJoin, CutsDoNotMatter};
+ghost use Rattle.op_wire.specs.Laws.{SpelledIsRead, ReadIsSpelled, NonePrefixes, OneReading, FaultsStay, StopsHaveNone, VersionsAreShort, OneSplit, TurnsAgree, TurnsJoin, CutsDoNotMatter, StreamsAreRead, PiecesAreRead, RecordsAreStreams, StreamsAreRecords};
 
 /// Bytes that begin with a record are read as its operation, whatever follows.
 pub fn spelled_is_read()
@@ -54,4 +54,24 @@ pub fn turns_join()
 /// However a stream is cut into pieces, the same operations are read of it, and the reader is left the same.
 pub fn cuts_do_not_matter()
     ensures { CutsDoNotMatter }
+{}
+
+/// A reader that is fed a whole stream, and then its end, comes to the operations of the stream, or to its first fault.
+pub fn streams_are_read()
+    ensures { StreamsAreRead }
+{}
+
+/// And so it does in whatever pieces the stream comes.
+pub fn pieces_are_read()
+    ensures { PiecesAreRead }
+{}
+
+/// Records one after the other are a stream of their operations.
+pub fn records_are_streams()
+    ensures { RecordsAreStreams }
+{}
+
+/// A stream that has no fault is the records of its operations.
+pub fn streams_are_records()
+    ensures { StreamsAreRecords }
 {}

@@ -19,8 +19,9 @@ mod stream;
 pub use encoding::encode;
 pub use fault::{EncodeFault, WireFault};
 pub use laws::{
-    cuts_do_not_matter, faults_stay, none_prefixes, one_reading, one_split, read_is_spelled,
-    spelled_is_read, stops_have_none, turns_agree, turns_join, versions_are_short,
+    cuts_do_not_matter, faults_stay, none_prefixes, one_reading, one_split, pieces_are_read,
+    read_is_spelled, records_are_streams, spelled_is_read, stops_have_none, streams_are_read,
+    streams_are_records, turns_agree, turns_join, versions_are_short,
 };
 pub use op_model::OutOfMemory;
 pub use reader::WireReader;
