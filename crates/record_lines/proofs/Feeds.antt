@@ -1,5 +1,5 @@
 -- A stream that is fed piece by piece, and what it unpacks to.
-use Rattle.std.proofs.Common.{◌≡◌, ℕ, ◌+◌, ◌-◌, ◌<◌, ◌^◌, ◌⊎◌, inl, inr, List, [], ◌∷◌, ◌++◌, append_assoc, append-nil, length, length-append, take, drop, Option, None, Some, Ok, Err, refl, sym, ap, ap₂, ◌∙◌, subst, arith}
+use Rattle.std.proofs.Common.{◌≡◌, ℕ, ◌+◌, ◌-◌, ◌<◌, ◌^◌, ◌⊎◌, inl, inr, List, [], ◌∷◌, ◌++◌, append_assoc, append-nil, length, length-append, take, drop, None, Some, Result, Ok, Err, refl, sym, ap, ap₂, ◌∙◌, subst, arith}
 use Rattle.std.specs.List.{AllByRecursion, flat_map}
 use Rattle.std.proofs.lemmas.List.Concat.{flat_map-append}
 use Rattle.std.proofs.lemmas.List.{drop_at, nil_from_length, take-append-drop, take_at}
@@ -8,13 +8,23 @@ use Rattle.op_wire.specs.declared.fault.WireFault.{WireFault}
 use Rattle.op_wire.specs.declared.fault.WireFault.TheVariants as faults
 use Rattle.op_wire.specs.Reading.{IsBytes, record_at}
 use Rattle.op_wire.specs.Spelling.{HasSpelling, spelling}
-use Rattle.op_wire.specs.Stream.{Appends, Fed, FeedCause, Finds, HasRead, IsUnfinished, Splits, Turn, bytes_fed, fault_at, faulted, finished, finished_with, fresh}
+use Rattle.op_wire.specs.Stream.{Appends, Fed, FeedCause, Finds, HasRead, IsUnfinished, Splits, Turn, bytes_fed, fault_at, faulted, finished, fresh, operations_of, operations_unless}
 use Rattle.op_wire.proofs.Prefixes.{faults_stay}
 use Rattle.op_wire.proofs.Readers.{IsBytes-drop, IsBytes-take}
-use Rattle.op_wire.proofs.Turns.{turns_agree}
+use Rattle.op_wire.proofs.Whole.{records_are_streams, streams_are_read, streams_are_records}
 use Rattle.record_lines.specs.Laws.{RecordsUnpack, UnpackedAreRecords, UnpacksToOne}
 use Rattle.record_lines.specs.Lines.{operation_lines}
-use Rattle.record_lines.specs.Unpacking.{AreWritten, Unpacks, lines_unless}
+use Rattle.record_lines.specs.Unpacking.{AreWritten, Unpacks, lines_or_fault, lines_unless, lines_of_stream}
+
+-- ---- what a reader comes to
+
+with_lines : (end : Result (Unit {0}) WireFault) (ops : List Operation) → lines_or_fault (operations_unless end ops) ≡ lines_unless end ops
+with_lines (Err e) ops = refl
+with_lines (Ok u) ops = refl
+
+pub unpacks_to_one : UnpacksToOne
+unfolding lines_of_stream
+unpacks_to_one bytes r u = ap lines_or_fault (streams_are_read bytes u.ops u.after u.read) ∙ (with_lines (finished u.after) u.ops ∙ sym u.text)
 
 -- ---- operations that are read
 
@@ -107,18 +117,19 @@ found came piece after old new lines before into e none f fits w =
 
 -- the fault of a feed is that of the stream, whatever comes after
 pub written-fault : (came piece after : List ℕ) (old new : Fed) (lines : List ℕ) (before into : List Operation) (e : WireFault) → before ≡ [] → FeedCause e old piece before into new → IsBytes (came ++ (piece ++ after)) → AreWritten came old lines
-    → Unpacks (came ++ (piece ++ after)) (Err e) ⊎ (e ≡ faults.OutOfMemory)
+    → (lines_of_stream (came ++ (piece ++ after)) ≡ Err e) ⊎ (e ≡ faults.OutOfMemory)
 written-fault came piece after old new lines before into e none (inl answered) fits w = let k : None ≡ Some e = sym w.read.still ∙ answered.0 in cc
-written-fault came piece after old new lines before into e none (inr (inl f)) fits w = inl (found came piece after old new lines before into e none f fits w)
+written-fault came piece after old new lines before into e none (inr (inl f)) fits w = inl (unpacks_to_one (came ++ (piece ++ after)) (Err e) (found came piece after old new lines before into e none f fits w))
 written-fault came piece after old new lines before into e none (inr (inr m)) fits w = inr m.0
 
 -- ---- the end of the stream
 
-pub written-end : (bytes : List ℕ) (reader : Fed) (lines : List ℕ) → AreWritten bytes reader lines → finished reader ≡ Ok tt → Unpacks bytes (Ok lines)
-written-end bytes reader lines w e = record { ops = w.ops; after = reader; read = inl w.read; text = ap Ok w.written ∙ ap (λ r. lines_unless r w.ops) (sym e) }
+pub written-end : (bytes : List ℕ) (reader : Fed) (lines : List ℕ) → AreWritten bytes reader lines → finished reader ≡ Ok tt → lines_of_stream bytes ≡ Ok lines
+written-end bytes reader lines w e =
+    unpacks_to_one bytes (Ok lines) (record { ops = w.ops; after = reader; read = inl w.read; text = ap Ok w.written ∙ ap (λ r. lines_unless r w.ops) (sym e) })
 
-pub written-cut : (bytes : List ℕ) (reader : Fed) (lines : List ℕ) (e : WireFault) → AreWritten bytes reader lines → finished reader ≡ Err e → Unpacks bytes (Err e)
-written-cut bytes reader lines e w is = record { ops = w.ops; after = reader; read = inl w.read; text = ap (λ r. lines_unless r w.ops) (sym is) }
+pub written-cut : (bytes : List ℕ) (reader : Fed) (lines : List ℕ) (e : WireFault) → AreWritten bytes reader lines → finished reader ≡ Err e → lines_of_stream bytes ≡ Err e
+written-cut bytes reader lines e w is = unpacks_to_one bytes (Err e) (record { ops = w.ops; after = reader; read = inl w.read; text = ap (λ r. lines_unless r w.ops) (sym is) })
 
 -- ---- a piece at a time
 
@@ -136,9 +147,9 @@ module _ (bytes rest piece after : List ℕ) (reader : Fed) (lines : List ℕ) (
   pub ahead-more : (new : Fed) (text : List ℕ) → ((came : List ℕ) → AreWritten came reader lines → AreWritten (came ++ piece) new text) → IsAhead bytes after new text
   ahead-more new text more = (a.0 ++ piece, whole ∙ sym (append_assoc a.0 piece after), more a.0 a.2)
 
-  pub ahead-fault : (e : WireFault) → ((came others : List ℕ) → IsBytes (came ++ (piece ++ others)) → AreWritten came reader lines → Unpacks (came ++ (piece ++ others)) (Err e) ⊎ (e ≡ faults.OutOfMemory)) → IsBytes bytes
-      → Unpacks bytes (Err e) ⊎ (e ≡ faults.OutOfMemory)
-  ahead-fault e fault fits = subst (λ (b : List ℕ). Unpacks b (Err e) ⊎ (e ≡ faults.OutOfMemory)) (sym whole) (fault a.0 after (subst IsBytes whole fits) a.2)
+  pub ahead-fault : (e : WireFault) → ((came others : List ℕ) → IsBytes (came ++ (piece ++ others)) → AreWritten came reader lines → (lines_of_stream (came ++ (piece ++ others)) ≡ Err e) ⊎ (e ≡ faults.OutOfMemory)) → IsBytes bytes
+      → (lines_of_stream bytes ≡ Err e) ⊎ (e ≡ faults.OutOfMemory)
+  ahead-fault e fault fits = subst (λ (b : List ℕ). (lines_of_stream b ≡ Err e) ⊎ (e ≡ faults.OutOfMemory)) (sym whole) (fault a.0 after (subst IsBytes whole fits) a.2)
 
 pub ahead-start : (bytes : List ℕ) (reader : Fed) (lines : List ℕ) → reader ≡ fresh → lines ≡ [] → IsAhead bytes bytes reader lines
 ahead-start bytes reader lines new none = ([], refl, written-start reader lines new none)
@@ -153,41 +164,17 @@ parted n rest front back f b = sym (take-append-drop n rest) ∙ ap₂ (λ (xs y
 
 -- ---- laws
 
-pub unpacks_to_one : UnpacksToOne
-unpacks_to_one bytes r s a b =
-    let same = turns_agree fresh a.after b.after bytes [] a.ops b.ops a.read b.read in
-    a.text ∙ (ap₂ (λ (f : Fed) ops. lines_unless (finished f) ops) same.1 same.0 ∙ sym b.text)
-
 pub records_unpack : RecordsUnpack
-records_unpack ops each =
-    let bytes : List ℕ = flat_map spelling ops in
-    let after : Fed = record { start = length bytes; rest = []; fault = None } in
-    record {
-      ops = ops;
-      after = after;
-      read = inl (record {
-        sound = refl;
-        reads = onto_nothing bytes ops [] (record { whole = sym (append-nil bytes); each = each });
-        unfinished = none_read;
-        counted = omega arith;
-        still = refl;
-      });
-      text = refl;
-    }
+unfolding lines_of_stream
+records_unpack ops each = ap lines_or_fault (records_are_streams ops each)
 
--- the reader has no fault and holds nothing
-all_read : (start : ℕ) (rest : List ℕ) (fault : Option WireFault) (ops : List Operation) (text : List ℕ) → Ok text ≡ lines_unless (finished_with start rest fault) ops → (rest ≡ []) × ((fault ≡ None) × (text ≡ operation_lines ops))
-all_read start rest (Some x) ops text e = cc
-all_read start [] None ops text e = (refl, (refl, cc))
-all_read start (b ∷ rest) None ops text e = cc
-
-of_turn : (bytes text : List ℕ) (ops : List Operation) (after : Fed) → Turn fresh bytes [] ops after → (after.rest ≡ []) × ((after.fault ≡ None) × (text ≡ operation_lines ops))
-    → (others : List Operation) × AllByRecursion HasSpelling others × (bytes ≡ flat_map spelling others) × (text ≡ operation_lines others)
-of_turn bytes text ops after (inl r) h =
-    let s = of_nothing bytes [] ops after.rest refl r.reads in
-    (ops, s.each, s.whole ∙ (ap (λ (rest : List ℕ). flat_map spelling ops ++ rest) h.0 ∙ append-nil (flat_map spelling ops)), h.1.1)
-of_turn bytes text ops after (inr (e, inl k)) h = let none : None ≡ Some e = k.0 in cc
-of_turn bytes text ops after (inr (e, inr f)) h = let none : None ≡ Some e = sym h.1.0 ∙ ap (λ (g : Fed). g.fault) f.answered in cc
+lines_of : (r : Result (List Operation) WireFault) (text : List ℕ) → lines_or_fault r ≡ Ok text → (ops : List Operation) × (r ≡ Ok ops) × (text ≡ operation_lines ops)
+lines_of (Err e) text is = absurd cc
+lines_of (Ok ops) text is = (ops, refl, cc)
 
 pub unpacked_are_records : UnpackedAreRecords
-unpacked_are_records bytes text u = of_turn bytes text u.ops u.after u.read (all_read u.after.start u.after.rest u.after.fault u.ops text u.text)
+unfolding lines_of_stream
+unpacked_are_records bytes text fits is =
+    let p = lines_of (operations_of bytes) text is in
+    let r = streams_are_records bytes p.0 fits p.1 in
+    (p.0, r.1, r.0, p.2)

@@ -1,5 +1,5 @@
 -- Worked rows: the record and the line of one insertion, and what bytes that are no records come to.
-use Rattle.std.proofs.Common.{◌≡◌, ℕ, inl, inr, List, [], ◌∷◌, take, None, Ok, Err, refl, arith}
+use Rattle.std.proofs.Common.{◌≡◌, ℕ, List, [], ◌∷◌, take, Ok, Err, refl, arith}
 use Rattle.std.specs.Fmt.{digits}
 use Rattle.std.specs.Prelude.{codes}
 use Rattle.json.proofs.Printed.Utf8.{IsUtf8-are_ascii}
@@ -9,11 +9,11 @@ use Rattle.op_model.specs.declared.operation.Operation.TheVariants.{Edit}
 use Rattle.op_wire.specs.declared.fault.WireFault.TheVariants as faults
 use Rattle.op_wire.specs.Reading.{stamp_at, checked_at, entry_at, entries_at, version_at, string_at, text_at, range_at, piece_at, pieces_at, all_pieces_at, head_at, edit_at, record_at}
 use Rattle.op_wire.specs.Spelling.{HasSpelling}
-use Rattle.op_wire.specs.Stream.{IsUnfinished, faulted}
+use Rattle.op_wire.specs.Stream.{operations_of}
 use Rattle.record_lines.specs.Packing.{records_of}
-use Rattle.record_lines.specs.Unpacking.{Unpacks}
+use Rattle.record_lines.specs.Unpacking.{lines_of_stream}
 use Rattle.record_lines.specs.Words.{fault_line, long_line}
-use Rattle.record_lines.proofs.Feeds.{onto_nothing, records_unpack}
+use Rattle.record_lines.proofs.Feeds.{records_unpack}
 
 -- an insertion of X
 abbrev insertion : Operation
@@ -40,50 +40,24 @@ insertion_spelled = record {
   short = refl;
 }
 
-pub insertion_unpacked : Unpacks row (Ok (codes "[\"op\",[2,1],[[0,1]],[[1,1,\"X\"]]]\n"))
+pub insertion_unpacked : lines_of_stream row ≡ Ok (codes "[\"op\",[2,1],[[0,1]],[[1,1,\"X\"]]]\n")
 unfolding escape_byte digits
 insertion_unpacked = records_unpack (insertion ∷ []) (insertion_spelled, tt)
 
-pub nothing_unpacked : Unpacks [] (Ok [])
+pub nothing_unpacked : lines_of_stream [] ≡ Ok []
 nothing_unpacked = records_unpack [] tt
 
-front_unfinished : IsUnfinished (take 41 row)
-unfolding record_at edit_at head_at all_pieces_at pieces_at piece_at range_at text_at string_at version_at entries_at entry_at checked_at stamp_at
-front_unfinished = refl
-
-pub front_unpacked : Unpacks (take 41 row) (Err (faults.Cut 0))
-front_unpacked = record {
-  ops = [];
-  after = record { start = 0; rest = take 41 row; fault = None };
-  read = inl (record { sound = refl; reads = onto_nothing (take 41 row) [] (take 41 row) (record { whole = refl; each = tt }); unfinished = front_unfinished; counted = refl; still = refl });
-  text = refl;
-}
+pub front_unpacked : lines_of_stream (take 41 row) ≡ Err (faults.Cut 0)
+unfolding lines_of_stream operations_of record_at edit_at head_at all_pieces_at pieces_at piece_at range_at text_at string_at version_at entries_at entry_at checked_at stamp_at
+front_unpacked = refl
 
 pub cut_in_words : fault_line (faults.Cut 0) ≡ codes "record at 0: cut\n"
 unfolding fault_line digits
 cut_in_words = refl
 
-pub kind_unpacked : Unpacks (3 ∷ []) (Err (faults.Kind 0))
-unfolding record_at
-kind_unpacked = record {
-  ops = [];
-  after = faulted 1 1 (faults.Kind 0);
-  read = inr (
-    faults.Kind 0,
-    inr (record {
-      sound = refl;
-      rest = 3 ∷ [];
-      reads = onto_nothing (3 ∷ []) [] (3 ∷ []) (record { whole = refl; each = tt });
-      word = _;
-      left = 1;
-      faulty = refl;
-      within = omega arith;
-      is = refl;
-      answered = refl;
-    }),
-  );
-  text = refl;
-}
+pub kind_unpacked : lines_of_stream (3 ∷ []) ≡ Err (faults.Kind 0)
+unfolding lines_of_stream operations_of record_at
+kind_unpacked = refl
 
 pub kind_in_words : fault_line (faults.Kind 0) ≡ codes "record at 0: kind\n"
 unfolding fault_line digits

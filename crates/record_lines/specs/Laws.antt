@@ -3,27 +3,28 @@ use Rattle.std.specs.Prelude.{◌≡◌, ◌<◌, ℕ, true, false, List, ◌++�
 use Rattle.std.specs.List.{AllByRecursion, flat_map}
 use Rattle.op_model.specs.declared.operation.Operation.{Operation}
 use Rattle.op_wire.specs.declared.fault.WireFault.{WireFault}
+use Rattle.op_wire.specs.Reading.{IsBytes}
 use Rattle.op_wire.specs.Spelling.{HasSpelling, spelling}
 use Rattle.session_lines.specs.Before.{BeforeState, line_read, returns_barred}
 use Rattle.session_lines.specs.Session.{header_of, lines_limit, session_of_text}
 use Rattle.session_lines.specs.declared.header.Header.{Header}
 use Rattle.session_writer.specs.Readable.{is_one_line}
 use Rattle.record_lines.specs.Lines.{operation_lines, operation_text, session_line}
-use Rattle.record_lines.specs.Unpacking.{Unpacks}
+use Rattle.record_lines.specs.Unpacking.{Unpacks, lines_of_stream}
 
--- bytes unpack to one thing alone
+-- bytes unpack to one thing alone, which a reader comes to that is fed all of them
 abbrev pub UnpacksToOne : Type 0
-UnpacksToOne = (bytes : List ℕ) → (r s : Result (List ℕ) WireFault) → Unpacks bytes r → Unpacks bytes s
-    → r ≡ s
+UnpacksToOne = (bytes : List ℕ) → (r : Result (List ℕ) WireFault) → Unpacks bytes r
+    → lines_of_stream bytes ≡ r
 
 -- records one after the other unpack to the lines of their operations
 abbrev pub RecordsUnpack : Type 0
 RecordsUnpack = (ops : List Operation) → AllByRecursion HasSpelling ops
-    → Unpacks (flat_map spelling ops) (Ok (operation_lines ops))
+    → lines_of_stream (flat_map spelling ops) ≡ Ok (operation_lines ops)
 
 -- what unpacks to lines are the records of operations, and the lines are those of these
 abbrev pub UnpackedAreRecords : Type 0
-UnpackedAreRecords = (bytes text : List ℕ) → Unpacks bytes (Ok text)
+UnpackedAreRecords = (bytes text : List ℕ) → IsBytes bytes → lines_of_stream bytes ≡ Ok text
     → (ops : List Operation) × AllByRecursion HasSpelling ops × (bytes ≡ flat_map spelling ops)
     × (text ≡ operation_lines ops)
 

@@ -1,7 +1,7 @@
 //! The laws of packed and unpacked operations, shown by functions that do nothing.
 ghost use Rattle.record_lines.specs.Laws.{LinesAreRead, LinesAreSession, RecordsUnpack, UnpackedAreRecords, UnpacksToOne};
 
-/// Bytes unpack to one thing alone: the lines of operations, or a fault.
+/// Bytes unpack to one thing alone, the lines of operations or a fault: what a reader comes to that is fed all of them.
 pub fn unpacks_to_one()
     ensures { UnpacksToOne }
 {}

@@ -3,7 +3,7 @@ ghost use Rattle.std.specs.Prelude.{◌≡◌, ◌⊎◌, ◌+◌, ◌<◌, ◌^
 ghost use Rattle.op_wire.specs.Reading.{IsBytes};
 ghost use Rattle.op_wire.specs.Stream.{bytes_fed};
 ghost use Rattle.op_wire.specs.declared.fault.WireFault.{WireFault};
-ghost use Rattle.record_lines.specs.Unpacking.{AreWritten, Unpacks};
+ghost use Rattle.record_lines.specs.Unpacking.{AreWritten, lines_of_stream};
 
 use crate::lines::with_lines;
 use op_wire::{WireFault, WireReader};
@@ -24,7 +24,7 @@ fn feed_piece(
         → AreWritten (came ++ piece.now) reader.new v.items) }
     ensures fault { IfErr result (λ e. (came after : List ℕ)
         → IsBytes (came ++ (piece.now ++ after)) → AreWritten came reader.old lines.items
-        → Unpacks (came ++ (piece.now ++ after)) (Err e) ⊎ (e ≡ WireFault.OutOfMemory)) }
+        → (lines_of_stream (came ++ (piece.now ++ after)) ≡ Err e) ⊎ (e ≡ WireFault.OutOfMemory)) }
 {
     let mut operations = Vec::new(alloc);
     reader.feed(piece, &mut operations)?;
@@ -40,8 +40,9 @@ fn feed_piece(
 /// The first fault of the stream, with the offset of its field: `Kind`, `Order`, `Zero`, `Long` or `Utf8`; or `Cut`
 /// with that of the record, if the stream ends inside one. `OutOfMemory` if an allocation fails.
 pub fn unpack(alloc: Global, bytes: &[u8]) -> Result<Vec<u8>, WireFault>
-    ensures ok { IfOk result (λ v. Unpacks bytes.now (Ok v.items)) }
-    ensures fault { IfErr result (λ e. Unpacks bytes.now (Err e) ⊎ (e ≡ WireFault.OutOfMemory)) }
+    ensures ok { IfOk result (λ v. lines_of_stream bytes.now ≡ Ok v.items) }
+    ensures fault { IfErr result
+        (λ e. (lines_of_stream bytes.now ≡ Err e) ⊎ (e ≡ WireFault.OutOfMemory)) }
 {
     let mut reader = WireReader::new(alloc);
     let mut lines = Vec::new(alloc);

@@ -1,4 +1,4 @@
-//! The tests of records of operations, by what their crate shows to all.
+//! The tests of records of operations, and of their lines in sessions, by what their crates show to all.
 #![tactic(auto)]
 
 #[cfg(test)]
@@ -7,6 +7,8 @@ mod cases;
 mod faults;
 #[cfg(test)]
 mod limits;
+#[cfg(test)]
+mod lines;
 #[cfg(test)]
 mod long;
 #[cfg(test)]

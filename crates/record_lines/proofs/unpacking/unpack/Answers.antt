@@ -1,6 +1,6 @@
 use Rattle.std.proofs.Common.{◌≡◌, inl, length, sym, rules}
 use Rattle.std.proofs.lemmas.Result.{err_from_is_err_and}
-use Rattle.record_lines.proofs.Feeds.{ahead-end, ahead-more, ahead-start, parted, written-cut}
+use Rattle.record_lines.proofs.Feeds.{ahead-end, ahead-more, ahead-start, parted, written-cut, written-end}
 use Rattle.record_lines.proofs.unpacking.unpack.Goals as goal
 
 pub loop-rest-init : goal.loop-rest-init
@@ -13,6 +13,12 @@ loop-rest-preserved c =
       ahead = ahead-more c.args.bytes.now c.loop-rest.rest.now c.split_at.result.0.now c.split_at.result.1.now c.loop-rest.reader c.loop-rest.lines.items parts c.loop-rest.invariant.ahead
           c.feed_piece.new.reader c.in_ok-lines.lines.items c.in_ok-lines.ensures.ok;
     }
+
+pub returns-clause-ok : goal.returns-clause-ok
+returns-clause-ok c =
+    let none : length c.loop-rest.rest.now ≡ 0 = search rules in
+    written-end c.args.bytes.now c.loop-rest.reader c.loop-rest.lines.items
+    (ahead-end c.args.bytes.now c.loop-rest.rest.now c.loop-rest.reader c.loop-rest.lines.items none c.loop-rest.invariant.ahead) (sym c.in_ok-finish.ensures)
 
 pub returns-in_err-finish-clause-fault : goal.returns-in_err-finish-clause-fault
 returns-in_err-finish-clause-fault c =
