@@ -4,7 +4,7 @@ use Rattle.std.specs.Prelude.{codes}
 use Rattle.clap.proofs.OnLiterals.{clap_on_literals}
 use Rattle.command_words.specs.Words.{command_with}
 use Rattle.command_words.specs.declared.command.Command.TheVariants.{Make, Read}
-use Rattle.command_words.specs.declared.command.Task.TheVariants.{Check, Migrate, Replay}
+use Rattle.command_words.specs.declared.command.Task.TheVariants.{Check, Migrate, Pack, Replay, Unpack}
 
 pub no_workers_named : command_with (codes "replay" ∷ []) ≡ Some (Read (Replay 2))
 unfolding clap_on_literals
@@ -41,6 +41,18 @@ migrated = refl
 pub migrated_with_workers : command_with (codes "migrate" ∷ codes "--workers" ∷ codes "2" ∷ []) ≡ None
 unfolding clap_on_literals
 migrated_with_workers = refl
+
+pub packed : command_with (codes "pack" ∷ []) ≡ Some (Read Pack)
+unfolding clap_on_literals
+packed = refl
+
+pub unpacked : command_with (codes "unpack" ∷ []) ≡ Some (Read Unpack)
+unfolding clap_on_literals
+unpacked = refl
+
+pub unpacked_with_words : command_with (codes "unpack" ∷ codes "pack" ∷ []) ≡ None
+unfolding clap_on_literals
+unpacked_with_words = refl
 
 pub no_words : command_with [] ≡ None
 unfolding clap_on_literals

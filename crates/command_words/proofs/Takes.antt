@@ -80,6 +80,12 @@ make_shape = slice_index_or subs 2 (new_shape [])
 abbrev migrate_shape : Shape
 migrate_shape = slice_index_or subs 3 (new_shape [])
 
+abbrev pack_shape : Shape
+pack_shape = slice_index_or subs 4 (new_shape [])
+
+abbrev unpack_shape : Shape
+unpack_shape = slice_index_or subs 5 (new_shape [])
+
 another : {X : Type 0} → false ≡ true → X
 another e = absurd (true≢false (sym e))
 
@@ -150,19 +156,21 @@ same_text a b e = (bytes_eq-Decides b a).1 (sym ((bytes_eq-Decides a b).0 e))
 
 sub_taken : (words : List Text) (word : Text) → bytes_eq word (codes "help") ≡ false → (s : Shape) → find (λ x. answers_to word (label_of x)) subs ≡ Some s → IsTaken words s
 sub_taken words word other s found =
-    go (bytes_eq (codes "replay") word) (bytes_eq (codes "check") word) (bytes_eq (codes "make") word) (bytes_eq (codes "migrate") word) (bytes_eq (codes "help") word) (λ e. true≢false (sym (same_text (codes "help") word e) ∙ other)) found
+    go (bytes_eq (codes "replay") word) (bytes_eq (codes "check") word) (bytes_eq (codes "make") word) (bytes_eq (codes "migrate") word) (bytes_eq (codes "pack") word) (bytes_eq (codes "unpack") word) (bytes_eq (codes "help") word) (λ e. true≢false (sym (same_text (codes "help") word e) ∙ other)) found
   where
     is : (x : Shape) → IsTaken words x → Some x ≡ Some s → IsTaken words s
     is x taken e = subst (IsTaken words) (ap (λ o. unwrap_or o x) e) taken
 
-    go : (a b c d e : Bool) → (e ≡ true → ⊥)
-        → cond (a || false) (Some replay_shape) (cond (b || false) (Some check_shape) (cond (c || false) (Some make_shape) (cond (d || false) (Some migrate_shape) (cond (e || false) (Some (slice_index_or subs 4 (new_shape []))) None)))) ≡ Some s → IsTaken words s
-    go true b c d e never k = is replay_shape (replay_taken words) k
-    go false true c d e never k = is check_shape (λ fine. refl) k
-    go false false true d e never k = is make_shape (make_taken words) k
-    go false false false true e never k = is migrate_shape (λ fine. refl) k
-    go false false false false true never k = absurd (never refl)
-    go false false false false false never k = absurd (cc k)
+    go : (a b c d p u e : Bool) → (e ≡ true → ⊥)
+        → cond (a || false) (Some replay_shape) (cond (b || false) (Some check_shape) (cond (c || false) (Some make_shape) (cond (d || false) (Some migrate_shape) (cond (p || false) (Some pack_shape) (cond (u || false) (Some unpack_shape) (cond (e || false) (Some (slice_index_or subs 6 (new_shape []))) None)))))) ≡ Some s → IsTaken words s
+    go true b c d p u e never k = is replay_shape (replay_taken words) k
+    go false true c d p u e never k = is check_shape (λ fine. refl) k
+    go false false true d p u e never k = is make_shape (make_taken words) k
+    go false false false true p u e never k = is migrate_shape (λ fine. refl) k
+    go false false false false true u e never k = is pack_shape (λ fine. refl) k
+    go false false false false false true e never k = is unpack_shape (λ fine. refl) k
+    go false false false false false false true never k = absurd (never refl)
+    go false false false false false false false never k = absurd (cc k)
 
 entered_taken : (o : Option (Text × List Text)) → StopsElsewhere (built command_line).top (names_of (built command_line)) refl o → is_some (entered (built command_line) o) ≡ true → entered_fault (built command_line) o ≡ []
     → is_some (option_and_then (λ p. command_from p.0 p.1) (entered (built command_line) o)) ≡ true

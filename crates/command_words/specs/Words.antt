@@ -11,7 +11,7 @@ use Rattle.clap.specs.declared.builder.value_parser.ValueParser.{ValueParser}
 use Rattle.clap.specs.declared.builder.value_parser.ValueParser.TheVariants.{Unsigned}
 use Rattle.command_words.specs.declared.command.Command.{Command}
 use Rattle.command_words.specs.declared.command.Command.TheVariants.{Make, Read}
-use Rattle.command_words.specs.declared.command.Task.TheVariants.{Check, Migrate, Replay}
+use Rattle.command_words.specs.declared.command.Task.TheVariants.{Check, Migrate, Pack, Replay, Unpack}
 
 -- ---- the command line, as `clap` is told it
 
@@ -47,15 +47,23 @@ make_line =
 abbrev pub migrate_line : App
 migrate_line = new_app (codes "migrate")
 
+-- `pack`
+abbrev pub pack_line : App
+pack_line = new_app (codes "pack")
+
+-- `unpack`
+abbrev pub unpack_line : App
+unpack_line = new_app (codes "unpack")
+
 -- the program without its commands: it has no name of a program before it, and asks for a command
 abbrev pub program : App
 program = on_top (λ s. record s { no_binary_name = true; subcommand_required = true }) (new_app (codes "zedbuf"))
 
--- one of the four
+-- one of the six
 abbrev pub command_line : App
 command_line =
-    with_subcommand (with_subcommand (with_subcommand (with_subcommand program
-    replay_line.top) check_line.top) make_line.top) migrate_line.top
+    with_subcommand (with_subcommand (with_subcommand (with_subcommand (with_subcommand (with_subcommand program
+    replay_line.top) check_line.top) make_line.top) migrate_line.top) pack_line.top) unpack_line.top
 
 -- ---- the command
 
@@ -87,6 +95,8 @@ command_from name found =
     else if bytes_eq name (codes "check") then Some (Read Check)
     else if bytes_eq name (codes "make") then make_from found
     else if bytes_eq name (codes "migrate") then Some (Read Migrate)
+    else if bytes_eq name (codes "pack") then Some (Read Pack)
+    else if bytes_eq name (codes "unpack") then Some (Read Unpack)
     else None
 
 -- the command of the words where `clap` finds no fault in them
@@ -110,4 +120,6 @@ abbrev pub IsInRange : Command → Type 0
 IsInRange (Read (Replay workers)) = workers ≤ 16
 IsInRange (Read Check) = ⊤
 IsInRange (Read Migrate) = ⊤
+IsInRange (Read Pack) = ⊤
+IsInRange (Read Unpack) = ⊤
 IsInRange (Make seed replicas edits) = (seed < 2 ^ 31) × (1 ≤ replicas) × (replicas ≤ 16) × (edits ≤ 20000)

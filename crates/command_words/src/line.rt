@@ -3,7 +3,7 @@ ghost use Rattle.std.specs.Prelude.{◌≡◌, IfOk, false, codes};
 ghost use Rattle.clap.specs.Words.{app_of, rule_of};
 ghost use Rattle.clap.specs.declared.builder.Command.TheViews.{out-Command as fields_of};
 ghost use Rattle.clap.specs.declared.builder.value_parser.ValueParser.TheVariants.{Unsigned};
-ghost use Rattle.command_words.specs.Words.{check_line, command_line, make_line, migrate_line, option_rule, program, replay_line, wanted_rule, workers_rule};
+ghost use Rattle.command_words.specs.Words.{check_line, command_line, make_line, option_rule, program, replay_line, wanted_rule, workers_rule};
 
 use crate::OutOfMemory;
 use clap::builder::ValueParser;
@@ -89,5 +89,7 @@ pub fn command_line<'a>(alloc: Global) -> Result<Command<'a>, OutOfMemory>
         .subcommand(replay_line(alloc)?)?
         .subcommand(Command::new(alloc, "check"))?
         .subcommand(make_line(alloc)?)?
-        .subcommand(Command::new(alloc, "migrate"))
+        .subcommand(Command::new(alloc, "migrate"))?
+        .subcommand(Command::new(alloc, "pack"))?
+        .subcommand(Command::new(alloc, "unpack"))
 }

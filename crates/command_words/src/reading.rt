@@ -60,6 +60,10 @@ fn command_from(name: &str, matches: &ArgMatches<'_>) -> Option<Command>
         make_from(matches)
     } else if name == "migrate" {
         Some(Command::Read(Task::Migrate))
+    } else if name == "pack" {
+        Some(Command::Read(Task::Pack))
+    } else if name == "unpack" {
+        Some(Command::Read(Task::Unpack))
     } else {
         None
     }
