@@ -16,3 +16,4 @@ pub mod Reports
 pub mod Rounds
 pub mod Twins
 pub mod Plainly
+pub mod Packs

@@ -10,4 +10,5 @@ pub mod ExchangeInside
 pub mod Working
 pub mod Making
 pub mod MakingOn
+pub mod Packing
 pub mod ReplicaIndices

@@ -6,6 +6,7 @@ ghost use Rattle.std.specs.Result.{result_ok};
 ghost use Rattle.std.specs.List.{count_by, position};
 ghost use Rattle.session_lines.specs.Report.{report_text};
 ghost use Rattle.text_buffer.specs.Buffer.{base_under};
+ghost use Rattle.session_work.specs.Packing.{with_line, with_lines};
 ghost use Rattle.session_work.specs.Exchange.{applied_at, applied_len, is_named, named_made};
 ghost use Rattle.session_work.specs.Work.{after_give, after_outcome, after_reopen, applied_count, buffer_of, edit_outcome, first_buffer, first_unnamed, give_answer, operation_of, outcome_reports, reports_at, stamps_under, undo_outcome, with_buffer, session_limit};
 
@@ -159,6 +160,21 @@ impl Exchange {
         Ok(stamps)
     }
 
+    /// The operations that stand under the numbers from 1 on, each with its line, where the lines are those of the numbers in turn. An
+    /// operation that a replica made is found in a time that is logarithmic in the number of those that the replica has applied.
+    pub fn made(&self, alloc: Global, lines: &[u64]) -> Result<Vec<(u64, &Operation)>, OutOfMemory>
+        ensures { IfOk result (λ v. map (λ p. (p.0, p.1.now)) v.items
+            ≡ with_lines 0 lines.now self.now.operations) }
+    {
+        let mut made = Vec::new(alloc);
+        let mut number = 0;
+        for line in lines {
+            number += 1;
+            push_made(&mut made, *line, self.operation_of(number))?;
+        }
+        Ok(made)
+    }
+
     /// Edits the text of the replica with that id, where it is there, as the next operation line.
     pub fn edit(
         &mut self,
@@ -269,6 +285,22 @@ impl Exchange {
     {
         named_count(self.named.as_slice())
     }
+}
+
+/// Appends the operation of a line, if it made one.
+fn push_made<'a>(
+    made: &mut Vec<(u64, &'a Operation)>,
+    line: u64,
+    operation: Option<&'a Operation>,
+) -> Result<(), OutOfMemory>
+    ensures { OnOk result (map (λ p. (p.0, p.1.now)) made.new.items
+        ≡ map (λ p. (p.0, p.1.now)) made.old.items
+        ++ with_line line (option_copied operation.entry) []) }
+{
+    if let Some(operation) = operation {
+        made.push((line, operation))?;
+    }
+    Ok(())
 }
 
 /// How many operations are kept.

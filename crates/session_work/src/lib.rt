@@ -8,6 +8,7 @@
 mod exchange;
 mod making;
 mod names;
+mod packing;
 mod queries;
 mod replay;
 mod replica;
@@ -15,6 +16,7 @@ mod replicas;
 
 pub use making::make;
 pub use op_model::OutOfMemory;
+pub use packing::pack;
 pub use queries::{
     Question, answer_of, find_answer, more_question_of, offset_answer, point_answer, query_line,
 };
