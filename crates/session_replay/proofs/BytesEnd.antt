@@ -1,10 +1,5 @@
 -- How the program ends on bytes, where no read and no write fails.
-use Rattle.std.proofs.Common.{◌≡◌, ℕ, ◌<◌, ◌≤◌, ◌⊎◌, inl, inr, List, length, ◌∙◌, subst, arith, Option, Some, Err, Bool}
-use Rattle.session_lines.specs.Cut.{lines_of}
-use Rattle.session_lines.specs.Session.{lines_limit}
-use Rattle.session_lines.specs.declared.fault.Word.{Word}
-use Rattle.session_lines.specs.declared.fault.DecodeFault.TheVariants.{Bad}
-use Rattle.session_more.specs.Decoding.{more_session_of_text}
+use Rattle.std.proofs.Common.{◌≡◌, ℕ, ◌<◌, ◌≤◌, ◌⊎◌, inl, inr, List, length, ◌∙◌, subst, arith, Option, Some}
 use Rattle.session_replay.specs.Causes.{Rose}
 use Rattle.session_work.specs.Work.{session_limit}
 use Rattle.session_replay.specs.Traffic.{WasRead}
@@ -25,17 +20,21 @@ not_last (inl a) n = inl a
 not_last (inr (inl b)) n = inr b
 not_last (inr (inr c)) n = absurd (never_rose (n c))
 
+-- of one task, or of some task
+pub of_task : {T A : Type 0} (C P : T → Type 0) (t : T) → C t → A ⊎ P t → A ⊎ ((x : T) × C x × P x)
+of_task C P t c (inl a) = inl a
+of_task C P t c (inr p) = inr (t, c, p)
+
 -- ---- what was read is the bytes
 
 module _ (left bytes : List ℕ) (is : left ≡ bytes) (left_after : Option (List ℕ)) (given given_after ends ends_after : ℕ) where
-  -- they have a first bad line
-  pub is_bad : (m : Bool) (P : ℕ → Word → Type 0) → (input : List ℕ) × WasRead (Some left) left_after given given_after ends ends_after input × (length input ≤ session_limit)
-      × ((n : ℕ) × (w : Word) × (more_session_of_text m input ≡ Err (Bad n w)) × P n w) → (length bytes ≤ session_limit) × ((n : ℕ) × (w : Word) × (more_session_of_text m bytes ≡ Err (Bad n w)))
-  is_bad m P r =
-      subst (λ (b : List ℕ). (length b ≤ session_limit) × ((n : ℕ) × (w : Word) × (more_session_of_text m b ≡ Err (Bad n w)))) (r.1.had ∙ is) (r.2, (r.3.0, r.3.1, r.3.2))
+  -- they are not what is read
+  pub is_bad : (P Q : List ℕ → List ℕ → Type 0) → (input : List ℕ) × WasRead (Some left) left_after given given_after ends ends_after input × (length input ≤ session_limit)
+      × ((line : List ℕ) × P input line × Q input line) → (length bytes ≤ session_limit) × ((line : List ℕ) × P bytes line)
+  is_bad P Q r = subst (λ (b : List ℕ). (length b ≤ session_limit) × ((line : List ℕ) × P b line)) (r.1.had ∙ is) (r.2, (r.3.0, r.3.1))
 
   -- they are too many, or have too many lines
-  pub is_large : (P Q R : Type 0) → ((session_limit < length left) × P × Q) ⊎ ((input : List ℕ) × WasRead (Some left) left_after given given_after ends ends_after input
-      × (length input ≤ session_limit) × (lines_limit < length (lines_of input)) × R) → (session_limit < length bytes) ⊎ (lines_limit < length (lines_of bytes))
-  is_large P Q R (inl l) = inl (subst (λ (b : List ℕ). session_limit < length b) is l.0)
-  is_large P Q R (inr r) = inr (subst (λ (b : List ℕ). lines_limit < length (lines_of b)) (r.1.had ∙ is) r.3)
+  pub is_large : (P : List ℕ → Type 0) (Q R S : Type 0) → ((session_limit < length left) × Q × R) ⊎ ((input : List ℕ) × WasRead (Some left) left_after given given_after ends ends_after input
+      × (length input ≤ session_limit) × P input × S) → (session_limit < length bytes) ⊎ P bytes
+  is_large P Q R S (inl l) = inl (subst (λ (b : List ℕ). session_limit < length b) is l.0)
+  is_large P Q R S (inr r) = inr (subst P (r.1.had ∙ is) r.3)

@@ -2,6 +2,9 @@
 use Rattle.std.proofs.Common.{◌≡◌, ℕ, ◌+◌, ◌<◌, Bool, true, false, cond, nat_lt, List, [], ◌∷◌, ◌++◌, length, Result, Ok, Err, refl, ap, subst}
 use Rattle.std.specs.Prelude.{⊤}
 use Rattle.std.proofs.lemmas.Bool.{lt-ltb, ltb-true}
+use Rattle.command_words.specs.declared.command.Task.{Task}
+use Rattle.command_words.specs.declared.command.Task.TheVariants as task
+use Rattle.session_replay.specs.Replay.{migrates, reads_session, works}
 use Rattle.session_lines.specs.Before.{BeforeState, header_read}
 use Rattle.session_lines.specs.Cut.{lines_of}
 use Rattle.session_lines.specs.Session.{lines_limit, then_from}
@@ -70,3 +73,19 @@ never_by m input false e = not_bad m (lines_of input) OutOfMemory e
 pub never_memory : (m : Bool) (input : List ℕ) → more_session_of_text m input ≡ Err OutOfMemory → ⊥
 unfolding more_session_of_text
 never_memory m input e = never_by m input (nat_lt lines_limit (length (lines_of input))) e
+
+-- ---- a task that works a session
+
+pub worked_plainly : (c : Task) → works c ≡ true → migrates c ≡ false
+worked_plainly (task.Replay workers) e = refl
+worked_plainly task.Check e = refl
+worked_plainly task.Migrate e = absurd (cc e)
+worked_plainly task.Pack e = refl
+worked_plainly task.Unpack e = refl
+
+pub worked_reads : (c : Task) → works c ≡ true → reads_session c ≡ true
+worked_reads (task.Replay workers) e = refl
+worked_reads task.Check e = refl
+worked_reads task.Migrate e = refl
+worked_reads task.Pack e = refl
+worked_reads task.Unpack e = absurd (cc e)

@@ -8,6 +8,7 @@ pub mod Opening
 pub mod Crossing
 pub mod Decoded
 pub mod Outcome
+pub mod Plain
 pub mod Sent
 pub mod OldReports
 pub mod FirstVersion

@@ -1,5 +1,5 @@
 -- Worked rows, from the bytes of a session to those of its report: the definitions compute.
-use Rattle.std.proofs.Common.{◌≡◌, ℕ, refl}
+use Rattle.std.proofs.Common.{◌≡◌, ℕ, [], ◌∷◌, refl}
 use Rattle.std.specs.Prelude.{codes}
 use Rattle.std.specs.Fmt.{digits}
 use Rattle.std.specs.Str.{is_utf8, chars}
@@ -19,8 +19,13 @@ use Rattle.snapshot_search.specs.Starts.{starts}
 use Rattle.session_more.specs.Decoding.{more_line_read, more_session_of_text}
 use Rattle.session_more.specs.Reports.{more_line_text, more_report_text}
 use Rattle.session_work.specs.MoreQueries.{more_report_of}
+use Rattle.op_wire.specs.Reading.{record_at}
+use Rattle.op_wire.specs.Stream.{operations_of}
+use Rattle.record_lines.specs.Packing.{records_of}
+use Rattle.record_lines.specs.Unpacking.{lines_of_stream}
+use Rattle.record_lines.specs.Words.{fault_line}
 use Rattle.session_replay.specs.Replay.{response_of}
-use Rattle.command_words.specs.declared.command.Task.TheVariants.{Check, Replay}
+use Rattle.command_words.specs.declared.command.Task.TheVariants.{Check, Pack, Replay, Unpack}
 use Rattle.session_replay.specs.declared.top.Status.TheVariants as status
 use Rattle.lamport_clock.specs.Stamps.{later, same_stamp}
 use Rattle.op_model.specs.Cells.{same_cell, sibling_first, seq_where, seq}
@@ -150,3 +155,18 @@ no_bracket = refl
 pub another_replica : response_of (Replay 2) (codes "[\"zedbuf\",1,\"ab\",[1,2]]\n[\"text\",3]\n") ≡ (status.Session, codes "session line 2: replica\n")
 unfolding response_of more_session_of_text header_read more_line_read line_read value_of line_of_value header_of_value header_of bad_line digits is_utf8 chars serde_json_on_literals
 another_replica = refl
+
+-- ---- records
+
+pub an_edit_is_packed : response_of Pack (codes "[\"zedbuf\",1,\"ab\",[1]]\n[\"edit\",1,[[1,1,\"X\"]]]\n")
+    ≡ (status.Done, 1 ∷ 0 ∷ 0 ∷ 0 ∷ 2 ∷ 0 ∷ 1 ∷ 0 ∷ 0 ∷ 0 ∷ 1 ∷ 0 ∷ 0 ∷ 0 ∷ 0 ∷ 0 ∷ 1 ∷ 0 ∷ 0 ∷ 0 ∷ 1 ∷ 0 ∷ 0 ∷ 0 ∷ 0 ∷ 0 ∷ 0 ∷ 0 ∷ 1 ∷ 0 ∷ 0 ∷ 0 ∷ 0 ∷ 0 ∷ 0 ∷ 0 ∷ 1 ∷ 0 ∷ 0 ∷ 0 ∷ 1 ∷ 88 ∷ [])
+unfolding response_of records_of open_histories more_session_of_text header_read more_line_read line_read value_of line_of_value header_of_value header_of is_utf8 chars serde_json_on_literals
+an_edit_is_packed = refl
+
+pub another_kind : response_of Unpack (3 ∷ []) ≡ (status.Session, codes "record at 0: kind\n")
+unfolding response_of lines_of_stream operations_of record_at fault_line digits
+another_kind = refl
+
+pub no_records : response_of Unpack [] ≡ (status.Done, [])
+unfolding response_of lines_of_stream operations_of
+no_records = refl

@@ -1,24 +1,15 @@
 -- What the status says once the answer to a source was sent.
-use Rattle.std.proofs.Common.{◌≡◌, ℕ, ◌+◌, ◌<◌, ◌≤◌, ◌⊎◌, inl, inr, List, length, sym, ◌∙◌, subst, arith, Option, None, Some, IfSome, Ok, Err}
+use Rattle.std.proofs.Common.{◌≡◌, ℕ, ◌+◌, ◌<◌, ◌≤◌, ◌⊎◌, inl, inr, List, length, refl, sym, ◌∙◌, subst, arith, Option, None, Some, IfSome, Ok, Err}
 use Rattle.std.specs.Io.KnownBytes.{Appends}
 use Rattle.session_replay.specs.Causes.{Rose, RoseBy}
 use Rattle.session_work.specs.Work.{session_limit}
 use Rattle.session_replay.specs.Traffic.{AppendsFront, Had, WasRead, WasTaken}
-use Rattle.session_lines.specs.Cut.{lines_of}
-use Rattle.session_lines.specs.Session.{lines_limit}
-use Rattle.session_lines.specs.Words.{bad_line, many_line}
-use Rattle.session_more.specs.Decoding.{more_session_of_text}
-use Rattle.session_more.specs.declared.session.MoreSession.{MoreSession}
-use Rattle.session_lines.specs.declared.fault.Word.{Word}
-use Rattle.session_lines.specs.declared.fault.DecodeFault.{DecodeFault}
-use Rattle.session_lines.specs.declared.fault.DecodeFault.TheVariants.{Bad, Lines}
-use Rattle.session_replay.specs.Replay.{large_line, migrates, Does, IsOutput, IsResponse, RespondsToSource, Writes}
+use Rattle.session_lines.specs.Words.{many_line}
+use Rattle.session_replay.specs.Replay.{large_line, Does, HasMany, IsBad, IsGood, IsOutput, IsRefused, IsResponse, RespondsToSource}
 use Rattle.command_words.specs.declared.command.Task.{Task}
-use Rattle.command_words.specs.declared.command.Task.TheVariants as task
 use Rattle.session_replay.specs.declared.top.Status.{Status}
 use Rattle.session_replay.specs.declared.top.Status.TheVariants as status
-use Rattle.session_replay.proofs.Decoded.{session_of_many}
-use Rattle.session_replay.proofs.Outcome.{Told, not_none, told}
+use Rattle.session_replay.proofs.Outcome.{Told, done_refused, good_bad, good_many, told}
 
 if_had : (left : Option (List ℕ)) (input : List ℕ) (P : List ℕ → Type 0) → Had left input → P input → IfSome left P
 if_had None input P h p = tt
@@ -48,24 +39,19 @@ module _ (c : Task) (left left_after : Option (List ℕ)) (given given_after end
   pub not_sent : (d : Status) → (status.Done ≡ d → ⊥) → (status.Session ≡ d → ⊥) → (status.TooLarge ≡ d → ⊥) → (status.WriteFault ≡ d → ⊥) → r ≡ d → ⊥
   not_sent d x y z n k = one_of d kept.kinds (same d k n).0 x y z
 
-  does : (c : Task) (s : MoreSession) → more_session_of_text (migrates c) a.input ≡ Ok s → Writes c a.input s text → Does c a.input text
-  does (task.Replay workers) s d w = (s, d, w)
-  does task.Check s d w = (s, d, w)
-  does task.Migrate s d w = (s, d, w)
-
   pub sent_done : r ≡ status.Done → (input : List ℕ) × WasRead left left_after given given_after ends ends_after input
       × (length input ≤ session_limit) × ((output : List ℕ) × Appends written written_after output × Does c input output)
   sent_done k =
       let s = same status.Done k (λ x. cc) in
       let f = kept.done s.0 in
-      (a.input, a.taken.whole f.0, f.0, (text, wrote s.1 text (λ i. text), does c f.1.0 f.1.1 f.1.2))
+      (a.input, a.taken.whole f.0, f.0, (text, wrote s.1 text refl, f.1))
 
   pub sent_session : r ≡ status.Session → (input : List ℕ) × WasRead left left_after given given_after ends ends_after input
-      × (length input ≤ session_limit) × ((n : ℕ) × (w : Word) × (more_session_of_text (migrates c) input ≡ Err (Bad n w)) × Appends written written_after (bad_line n w))
+      × (length input ≤ session_limit) × ((line : List ℕ) × IsBad c input line × Appends written written_after line)
   sent_session k =
       let s = same status.Session k (λ x. cc) in
       let f = kept.session s.0 in
-      (a.input, a.taken.whole f.0, f.0, (f.1.0, f.1.1, f.1.2, wrote s.1 (bad_line f.1.0 f.1.1) f.1.3))
+      (a.input, a.taken.whole f.0, f.0, (text, f.1, wrote s.1 text refl))
 
   pub sent_ended : (r ≡ status.Done) ⊎ (r ≡ status.Session) → Rose ends ends_after
   sent_ended (inl k) = (a.taken.whole (kept.done (same status.Done k (λ x. cc)).0).0).ended
@@ -75,22 +61,22 @@ module _ (c : Task) (left left_after : Option (List ℕ)) (given given_after end
   abbrev TooLarge : Type 0
   TooLarge =
       (IfSome left (λ input. session_limit < length input) × RoseBy (session_limit + 1) given given_after × Appends written written_after large_line)
-      ⊎ ((input : List ℕ) × WasRead left left_after given given_after ends ends_after input × (length input ≤ session_limit) × (lines_limit < length (lines_of input)) × Appends written written_after many_line)
+      ⊎ ((input : List ℕ) × WasRead left left_after given given_after ends ends_after input × (length input ≤ session_limit) × HasMany c input × Appends written written_after many_line)
 
-  large_by : r ≡ st → ((session_limit < length a.input) × (large_line ≡ text)) ⊎ ((length a.input ≤ session_limit) × (lines_limit < length (lines_of a.input)) × (many_line ≡ text)) → TooLarge
-  large_by e (inl f) = inl (if_had left a.input (λ input. session_limit < length input) a.taken.had f.0, a.taken.large f.0, wrote e large_line f.1)
-  large_by e (inr f) = inr (a.input, a.taken.whole f.0, f.0, f.1, wrote e many_line f.2)
+  large_by : r ≡ st → ((session_limit < length a.input) × (text ≡ large_line)) ⊎ ((length a.input ≤ session_limit) × HasMany c a.input × (text ≡ many_line)) → TooLarge
+  large_by e (inl f) = inl (if_had left a.input (λ input. session_limit < length input) a.taken.had f.0, a.taken.large f.0, wrote e large_line (sym f.1))
+  large_by e (inr f) = inr (a.input, a.taken.whole f.0, f.0, f.1, wrote e many_line (sym f.2))
 
   pub sent_large : r ≡ status.TooLarge → TooLarge
   sent_large k = let s = same status.TooLarge k (λ x. cc) in large_by s.1 (kept.large s.0)
 
-  large_output : ((session_limit < length a.input) × (large_line ≡ text)) ⊎ ((length a.input ≤ session_limit) × (lines_limit < length (lines_of a.input)) × (many_line ≡ text)) → IsOutput c a.input text
-  large_output (inl f) = inr (inl (f.0, sym f.1))
-  large_output (inr f) = inr (inr (f.0, (Lines (length (lines_of a.input)), session_of_many (migrates c) a.input f.1, sym f.2)))
+  large_output : ((session_limit < length a.input) × (text ≡ large_line)) ⊎ ((length a.input ≤ session_limit) × HasMany c a.input × (text ≡ many_line)) → IsOutput c a.input text
+  large_output (inl f) = inr (inl f)
+  large_output (inr f) = inr (inr (f.0, inl (f.1, f.2)))
 
   output_by : (st ≡ status.Done) ⊎ ((st ≡ status.Session) ⊎ (st ≡ status.TooLarge)) → IsOutput c a.input text
-  output_by (inl k) = let f = kept.done k in inl (f.0, does c f.1.0 f.1.1 f.1.2)
-  output_by (inr (inl k)) = let f = kept.session k in inr (inr (f.0, (Bad f.1.0 f.1.1, f.1.2, sym f.1.3)))
+  output_by (inl k) = inl (kept.done k)
+  output_by (inr (inl k)) = let f = kept.session k in inr (inr (f.0, inr f.1))
   output_by (inr (inr k)) = large_output (kept.large k)
 
   pub sent_front : (d : Task) → d ≡ c → AppendsFront written written_after shown → (input : List ℕ) × WasTaken left left_after given given_after ends ends_after input
@@ -102,29 +88,34 @@ module _ (c : Task) (left left_after : Option (List ℕ)) (given given_after end
     sent_by (inl e) = e
     sent_by (inr e) = absurd (no_fault e)
 
-    -- what answers a session is not the text of a bad line, nor of too many bytes
-    done_by : (s : MoreSession) → length a.input ≤ session_limit → more_session_of_text (migrates c) a.input ≡ Ok s → IsResponse c a.input st text → st ≡ status.Done
-    done_by s le e (inl w) = w.0
-    done_by s le e (inr k) = not_none c a.input s le e k.0
+    -- an input of which the task can make something is not refused
+    many_by : IsGood c a.input → length a.input ≤ session_limit → ((session_limit < length a.input) × (text ≡ large_line)) ⊎ ((length a.input ≤ session_limit) × HasMany c a.input × (text ≡ many_line)) → st ≡ status.Done
+    many_by g le (inl f) = absurd (omega (arith, f.0, le))
+    many_by g le (inr f) = good_many c a.input g f.1
 
-    pub completes : IfSome left (λ input. length input ≤ session_limit → (s : MoreSession) → more_session_of_text (migrates c) input ≡ Ok s → (r ≡ status.Done) ⊎ (r ≡ status.Memory))
+    done_by : length a.input ≤ session_limit → IsGood c a.input → IsResponse c a.input st text → st ≡ status.Done
+    done_by le g (inl w) = w.0
+    done_by le g (inr (inl w)) = good_bad c a.input text g w.2
+    done_by le g (inr (inr w)) = many_by g le w.1
+
+    pub completes : IfSome left (λ input. length input ≤ session_limit → IsGood c input → (r ≡ status.Done) ⊎ (r ≡ status.Memory))
     completes =
-        if_had left a.input (λ input. length input ≤ session_limit → (s : MoreSession) → more_session_of_text (migrates c) input ≡ Ok s → (r ≡ status.Done) ⊎ (r ≡ status.Memory)) a.taken.had
-        (λ le s e. inl (sent_by either ∙ done_by s le e a.response))
+        if_had left a.input (λ input. length input ≤ session_limit → IsGood c input → (r ≡ status.Done) ⊎ (r ≡ status.Memory)) a.taken.had
+        (λ le g. inl (sent_by either ∙ done_by le g a.response))
 
-    none_done : st ≡ status.Done → (session_limit < length a.input) ⊎ ((e : DecodeFault) × (more_session_of_text (migrates c) a.input ≡ Err e)) → ⊥
+    none_done : st ≡ status.Done → (session_limit < length a.input) ⊎ IsRefused c a.input → ⊥
     none_done k (inl h) = omega (arith, (kept.done k).0)
-    none_done k (inr h) = let e : Ok (kept.done k).1.0 ≡ Err h.0 = sym (kept.done k).1.1 ∙ h.1 in cc
+    none_done k (inr h) = done_refused c a.input text (kept.done k).1 h
 
-    by_kind : (st ≡ status.Done) ⊎ ((st ≡ status.Session) ⊎ (st ≡ status.TooLarge)) → (session_limit < length a.input) ⊎ ((e : DecodeFault) × (more_session_of_text (migrates c) a.input ≡ Err e))
+    by_kind : (st ≡ status.Done) ⊎ ((st ≡ status.Session) ⊎ (st ≡ status.TooLarge)) → (session_limit < length a.input) ⊎ IsRefused c a.input
         → (r ≡ status.Session) ⊎ ((r ≡ status.TooLarge) ⊎ (r ≡ status.Memory))
     by_kind (inl k) h = absurd (none_done k h)
     by_kind (inr (inl k)) h = inl (sent_by either ∙ k)
     by_kind (inr (inr k)) h = inr (inl (sent_by either ∙ k))
 
-    pub refuses : IfSome left (λ input. (session_limit < length input) ⊎ ((e : DecodeFault) × (more_session_of_text (migrates c) input ≡ Err e)) → (r ≡ status.Session) ⊎ ((r ≡ status.TooLarge) ⊎ (r ≡ status.Memory)))
+    pub refuses : IfSome left (λ input. (session_limit < length input) ⊎ IsRefused c input → (r ≡ status.Session) ⊎ ((r ≡ status.TooLarge) ⊎ (r ≡ status.Memory)))
     refuses =
-        if_had left a.input (λ input. (session_limit < length input) ⊎ ((e : DecodeFault) × (more_session_of_text (migrates c) input ≡ Err e)) → (r ≡ status.Session) ⊎ ((r ≡ status.TooLarge) ⊎ (r ≡ status.Memory))) a.taken.had
+        if_had left a.input (λ input. (session_limit < length input) ⊎ IsRefused c input → (r ≡ status.Session) ⊎ ((r ≡ status.TooLarge) ⊎ (r ≡ status.Memory))) a.taken.had
         (by_kind kept.kinds)
 
 no_fault_by : (st : Status) → (st ≡ status.Done) ⊎ ((st ≡ status.Session) ⊎ (st ≡ status.TooLarge)) → st ≡ status.WriteFault → ⊥

@@ -1,5 +1,5 @@
 //! What the report of a session is, whatever the workers.
-ghost use Rattle.session_replay.specs.Laws.{MigratedReportsAlike, OldReportsStay, PlainWithWorkers, PlainWithoutQueries, PlainWithoutWorkers};
+ghost use Rattle.session_replay.specs.Laws.{MigratedReportsAlike, OldReportsStay, PlainWithWorkers, PlainWithoutQueries, PlainWithoutWorkers, RecordsArePlain, RefusalsArePlain};
 
 /// Without workers the output is the plain report: each query is answered at its place in the session. It is so for every
 /// session, also where operations come late.
@@ -26,4 +26,14 @@ pub fn old_reports_stay()
 /// CR, so its buffers do the same whether they keep texts as they are or make each CR an LF.
 pub fn migrated_reports_alike()
     ensures { MigratedReportsAlike }
+{}
+
+/// An input that is refused is answered with the line of the plain response to it.
+pub fn refusals_are_plain()
+    ensures { RefusalsArePlain }
+{}
+
+/// The records of a session, and the lines of records, are those of the plain response.
+pub fn records_are_plain()
+    ensures { RecordsArePlain }
 {}

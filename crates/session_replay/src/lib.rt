@@ -17,7 +17,7 @@ mod traffic;
 pub use counts::ReadCounts;
 pub use laws::{
     migrated_reports_alike, old_reports_stay, plain_with_workers, plain_without_queries,
-    plain_without_workers,
+    plain_without_workers, records_are_plain, refusals_are_plain,
 };
 pub use memory::{MemSink, MemSource, SureSink, SureSource};
 pub use op_model::OutOfMemory;

@@ -1,15 +1,9 @@
 //! The program on bytes in memory, where no read and no write fails.
-ghost use Rattle.std.specs.Prelude.{◌≡◌, ◌≤◌, ◌<◌, ◌⊎◌, ℕ, length, Ok, Err, Some, None};
+ghost use Rattle.std.specs.Prelude.{◌≡◌, ◌≤◌, ◌<◌, ◌⊎◌, ℕ, List, length, Some, None};
 ghost use Rattle.command_words.specs.Words.{command_of};
 ghost use Rattle.command_words.specs.declared.command.Command.{Command};
 ghost use Rattle.command_words.specs.declared.command.Task.{Task};
-ghost use Rattle.session_lines.specs.Cut.{lines_of};
-ghost use Rattle.session_lines.specs.Session.{lines_limit};
-ghost use Rattle.session_lines.specs.declared.fault.Word.{Word};
-ghost use Rattle.session_lines.specs.declared.fault.DecodeFault.{DecodeFault};
-ghost use Rattle.session_more.specs.Decoding.{more_session_of_text};
-ghost use Rattle.session_more.specs.declared.session.MoreSession.{MoreSession};
-ghost use Rattle.session_replay.specs.Replay.{migrates};
+ghost use Rattle.session_replay.specs.Replay.{HasMany, IsBad, IsGood, IsRefused};
 ghost use Rattle.session_work.specs.Work.{session_limit};
 
 use crate::memory::{SureSink, SureSource};
@@ -31,24 +25,22 @@ pub fn run_on_bytes<R: Threads + Wait + Sync, G: Gate>(
     // Words that are no command.
     ensures usage { command_of words.now ≡ None
         → (result ≡ Status.Usage) ⊎ (result ≡ Status.Memory) }
-    // A command and a session within the limits, or a command that reads none.
+    // A command and an input within the limits of which it can make something, or a command that reads none.
     ensures completes { (task : Task) → command_of words.now ≡ Some (Command.Read task)
-        → length bytes.items ≤ session_limit
-        → (s : MoreSession) → more_session_of_text (migrates task) bytes.items ≡ Ok s
+        → length bytes.items ≤ session_limit → IsGood task bytes.items
         → (result ≡ Status.Done) ⊎ (result ≡ Status.Memory) }
     ensures made { (seed n edits : ℕ) → command_of words.now ≡ Some (Command.Make seed n edits)
         → (result ≡ Status.Done) ⊎ (result ≡ Status.Memory) }
-    // A command, and bytes that are no session or too many.
+    // A command, and bytes of which it can make nothing or too many.
     ensures refuses { (task : Task) → command_of words.now ≡ Some (Command.Read task)
-        → (session_limit < length bytes.items)
-        ⊎ ((e : DecodeFault) × (more_session_of_text (migrates task) bytes.items ≡ Err e))
+        → (session_limit < length bytes.items) ⊎ IsRefused task bytes.items
         → (result ≡ Status.Session) ⊎ ((result ≡ Status.TooLarge) ⊎ (result ≡ Status.Memory)) }
     ensures session { result ≡ Status.Session → (length bytes.items ≤ session_limit)
         × ((task : Task) × (command_of words.now ≡ Some (Command.Read task))
-        × ((n : ℕ) × (w : Word)
-        × (more_session_of_text (migrates task) bytes.items ≡ Err (DecodeFault.Bad n w)))) }
+        × ((line : List ℕ) × IsBad task bytes.items line)) }
     ensures large { result ≡ Status.TooLarge → (session_limit < length bytes.items)
-        ⊎ (lines_limit < length (lines_of bytes.items)) }
+        ⊎ ((task : Task) × (command_of words.now ≡ Some (Command.Read task))
+        × HasMany task bytes.items) }
 {
     let mut src = SureSource::new(bytes);
     run(rt, alloc, words, &mut src, &mut SureSink, gate)

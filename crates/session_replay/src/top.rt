@@ -1,5 +1,5 @@
 //! The top call.
-ghost use Rattle.std.specs.Prelude.{◌≡◌, ◌≤◌, ◌<◌, ◌+◌, ◌⊎◌, ℕ, List, length, string_bytes, false, IfOk, IfSome, IsErrOf, Ok, Err, Some, None};
+ghost use Rattle.std.specs.Prelude.{◌≡◌, ◌≤◌, ◌<◌, ◌+◌, ◌⊎◌, ℕ, List, length, string_bytes, false, true, IfOk, IfSome, IsErrOf, Ok, Err, Some, None};
 ghost use Rattle.std.specs.Io.KnownBytes.{Appends};
 ghost use Rattle.session_replay.specs.Causes.{Rose, RoseBy};
 ghost use Rattle.session_work.specs.Work.{session_limit};
@@ -15,7 +15,7 @@ ghost use Rattle.session_more.specs.Reports.{more_line_text, more_session_counts
 ghost use Rattle.session_more.specs.declared.session.MoreSession.{MoreSession};
 ghost use Rattle.session_work.specs.Making.{Makes};
 ghost use Rattle.session_replay.specs.Replies.{IsReport};
-ghost use Rattle.session_replay.specs.Replay.{Does, Ends, IsOutput, IsPrepared, IsReady, IsWritten, PreparesSource, RespondsToSource, Writes, large_line, migrates, refusal, usage_line};
+ghost use Rattle.session_replay.specs.Replay.{Does, Ends, HasMany, IsBad, IsGood, IsOutput, IsPrepared, IsReady, IsRefused, IsWritten, PreparesSource, RespondsToSource, large_line, migrates, reads_session, refusal, usage_line, works};
 ghost use Rattle.session_lines.specs.declared.fault.Word.{Word};
 ghost use Rattle.session_lines.specs.declared.fault.DecodeFault.{DecodeFault};
 
@@ -24,9 +24,11 @@ use crate::beside::report_beside;
 use crate::outside::{Failed, Sink, Source};
 use crate::traffic::{InputFault, read_all, write_all};
 use command_words::{Command, Task, command_of};
+use op_wire::WireFault;
 use query_workers::Gate;
+use record_lines::{PackFault, fault_line, long_line, unpack};
 use session_more::{DecodeFault, MoreReport, MoreSession, Word, decode, write_line};
-use session_work::{make, report};
+use session_work::{make, pack, report};
 use session_writer::migrate;
 use std::alloc::Global;
 use std::sync::Wait;
@@ -52,7 +54,7 @@ pub enum Status {
 }
 
 const USAGE: &str =
-    "usage: zedbuf replay [--workers N] | check | make --seed N --replicas N --edits N | migrate\n";
+    "usage: zedbuf replay [--workers N] | check | make --seed N --replicas N --edits N | migrate | pack | unpack\n";
 
 fn bytes_of(alloc: Global, text: &str) -> Result<Vec<u8>, OutOfMemory>
     ensures { IfOk result (λ v. v.items ≡ text.now) }
@@ -95,45 +97,75 @@ fn plain_report(alloc: Global, workers: u32, session: MoreSession) -> Result<Vec
     report(alloc, session)
 }
 
-/// What a task that does not migrate writes for a session where nobody waits.
-fn plain_output(alloc: Global, task: Task, session: MoreSession) -> Result<Vec<u8>, OutOfMemory>
-    requires task { migrates task ≡ false }
-    requires session { IsSession session_limit (headed session) }
-    ensures { IfOk result (λ v. (input : List ℕ) → Writes task input session v.items) }
+/// A text that is written where all went well.
+fn done(text: Vec<u8>) -> Prepared
+    ensures ready { IsReady result }
+    ensures prepared { (task : Task) → (input : List ℕ) → length input ≤ session_limit
+        → Does task input text.items → IsPrepared task input result }
 {
-    match task {
-        Task::Replay { workers } => plain_report(alloc, workers, session),
-        Task::Check => check(alloc, &session),
-        Task::Migrate => unreachable!(),
+    Prepared::Response {
+        status: Status::Done,
+        text,
     }
 }
 
-/// A response to a session.
-fn respond_plainly(alloc: Global, task: Task, session: MoreSession) -> Result<Prepared, OutOfMemory>
-    requires task { migrates task ≡ false }
-    requires session { IsSession session_limit (headed session) }
+/// A line for an input that is not what its task reads.
+fn bad(alloc: Global, line: &str) -> Result<Prepared, OutOfMemory>
     ensures ready { IfOk result IsReady }
-    ensures prepared { IfOk result (λ p. (input : List ℕ) → length input ≤ session_limit
-        → more_session_of_text (migrates task) input ≡ Ok session → IsPrepared task input p) }
+    ensures prepared { IfOk result (λ p. (task : Task) → (input : List ℕ)
+        → length input ≤ session_limit → IsBad task input line.now → IsPrepared task input p) }
 {
-    let text = plain_output(alloc, task, session)?;
     Ok(Prepared::Response {
-        status: Status::Done,
-        text,
+        status: Status::Session,
+        text: bytes_of(alloc, line)?,
     })
 }
 
-/// What a session comes to where nobody waits.
+/// What the report of a session comes to where nobody waits.
+fn prepare_report(
+    alloc: Global,
+    workers: u32,
+    session: MoreSession,
+) -> Result<Prepared, OutOfMemory>
+    requires session { IsSession session_limit (headed session) }
+    ensures ready { IfOk result IsReady }
+    ensures prepared { IfOk result (λ p. (input : List ℕ) → length input ≤ session_limit
+        → more_session_of_text false input ≡ Ok session
+        → IsPrepared (Task.Replay workers) input p) }
+{
+    if workers > 0 {
+        return Ok(Prepared::Beside { workers, session });
+    }
+    Ok(done(plain_report(alloc, workers, session)?))
+}
+
+/// What packing a session comes to.
+fn prepare_records(alloc: Global, session: MoreSession) -> Result<Prepared, OutOfMemory>
+    requires session { IsSession session_limit (headed session) }
+    ensures ready { IfOk result IsReady }
+    ensures prepared { IfOk result (λ p. (input : List ℕ) → length input ≤ session_limit
+        → more_session_of_text false input ≡ Ok session → IsPrepared Task.Pack input p) }
+{
+    match pack(alloc, session) {
+        Ok(records) => Ok(done(records)),
+        Err(PackFault::Long { line }) => bad(alloc, long_line(alloc, line)?.as_str()),
+        Err(PackFault::OutOfMemory) => Err(OutOfMemory),
+    }
+}
+
+/// What a session comes to where nobody waits, for a task that reads one and does not migrate it.
 fn prepare_session(alloc: Global, task: Task, session: MoreSession) -> Result<Prepared, OutOfMemory>
-    requires task { migrates task ≡ false }
+    requires task { works task ≡ true }
     requires session { IsSession session_limit (headed session) }
     ensures ready { IfOk result IsReady }
     ensures prepared { IfOk result (λ p. (input : List ℕ) → length input ≤ session_limit
         → more_session_of_text (migrates task) input ≡ Ok session → IsPrepared task input p) }
 {
     match task {
-        Task::Replay { workers } if workers > 0 => Ok(Prepared::Beside { workers, session }),
-        task => respond_plainly(alloc, task, session),
+        Task::Replay { workers } => prepare_report(alloc, workers, session),
+        Task::Check => Ok(done(check(alloc, &session)?)),
+        Task::Pack => prepare_records(alloc, session),
+        Task::Migrate | Task::Unpack => unreachable!(),
     }
 }
 
@@ -151,10 +183,10 @@ fn refusal(alloc: Global, fault: DecodeFault) -> Result<(Status, Vec<u8>), OutOf
     }
 }
 
-/// A response to an input that is no session.
+/// A response to an input that is no session, for a task that reads one.
 fn respond_to_fault(alloc: Global, fault: DecodeFault) -> Result<Prepared, OutOfMemory>
     ensures ready { IfOk result IsReady }
-    ensures prepared { IfOk result (λ p. (task : Task) → (input : List ℕ)
+    ensures prepared { IfOk result (λ p. (task : Task) → (input : List ℕ) → reads_session task ≡ true
         → length input ≤ session_limit → more_session_of_text (migrates task) input ≡ Err fault
         → IsPrepared task input p) }
 {
@@ -178,9 +210,22 @@ fn prepare_migration(alloc: Global, input: &[u8]) -> Result<Prepared, OutOfMemor
     }
 }
 
-/// What an input comes to that is not migrated. The input is dropped once it is decoded.
+/// What an input comes to that is unpacked.
+fn prepare_lines(alloc: Global, input: &[u8]) -> Result<Prepared, OutOfMemory>
+    requires { length input.now ≤ session_limit }
+    ensures ready { IfOk result IsReady }
+    ensures prepared { IfOk result (λ p. IsPrepared Task.Unpack input.now p) }
+{
+    match unpack(alloc, input) {
+        Ok(lines) => Ok(done(lines)),
+        Err(WireFault::OutOfMemory) => Err(OutOfMemory),
+        Err(fault) => bad(alloc, fault_line(alloc, fault)?.as_str()),
+    }
+}
+
+/// What an input comes to whose session is worked or counted. The input is dropped once it is decoded.
 fn prepare_decoded(alloc: Global, task: Task, input: Vec<u8>) -> Result<Prepared, OutOfMemory>
-    requires task { migrates task ≡ false }
+    requires task { works task ≡ true }
     requires input { length input.items ≤ session_limit }
     ensures ready { IfOk result IsReady }
     ensures prepared { IfOk result (λ p. IsPrepared task input.items p) }
@@ -202,7 +247,8 @@ fn prepare(alloc: Global, task: Task, input: Vec<u8>) -> Result<Prepared, OutOfM
 {
     match task {
         Task::Migrate => prepare_migration(alloc, input.as_slice()),
-        Task::Replay { .. } | Task::Check => prepare_decoded(alloc, task, input),
+        Task::Unpack => prepare_lines(alloc, input.as_slice()),
+        Task::Replay { .. } | Task::Check | Task::Pack => prepare_decoded(alloc, task, input),
     }
 }
 
@@ -297,9 +343,8 @@ fn work<R: Threads + Wait + Sync, I: Source, O: Sink, G: Gate>(
         × WasRead (I.left src.old) (I.left src.new) (I.given src.old) (I.given src.new)
         (I.ends src.old) (I.ends src.new) input
         × (length input ≤ session_limit)
-        × ((n : ℕ) × (w : Word)
-        × (more_session_of_text (migrates task) input ≡ Err (DecodeFault.Bad n w))
-        × Appends (O.written out.old) (O.written out.new) (bad_line n w)) }
+        × ((line : List ℕ) × IsBad task input line
+        × Appends (O.written out.old) (O.written out.new) line) }
     ensures ended { (result ≡ Status.Done) ⊎ (result ≡ Status.Session)
         → Rose (I.ends src.old) (I.ends src.new) }
     ensures large { result ≡ Status.TooLarge →
@@ -309,7 +354,7 @@ fn work<R: Threads + Wait + Sync, I: Source, O: Sink, G: Gate>(
         ⊎ ((input : List ℕ)
         × WasRead (I.left src.old) (I.left src.new) (I.given src.old) (I.given src.new)
         (I.ends src.old) (I.ends src.new) input
-        × (length input ≤ session_limit) × (lines_limit < length (lines_of input))
+        × (length input ≤ session_limit) × HasMany task input
         × Appends (O.written out.old) (O.written out.new) many_line) }
     ensures bounded { I.given src.new ≤ I.given src.old + (session_limit + 1) }
     ensures read_fault { result ≡ Status.ReadFault
@@ -323,13 +368,11 @@ fn work<R: Threads + Wait + Sync, I: Source, O: Sink, G: Gate>(
     ensures memory { result ≡ Status.Memory → out.new ≡ out.old }
     ensures completes { (Rose (I.faults src.old) (I.faults src.new) → ⊥)
         → (Rose (O.faults out.old) (O.faults out.new) → ⊥)
-        → IfSome (I.left src.old) (λ input. length input ≤ session_limit
-        → (s : MoreSession) → more_session_of_text (migrates task) input ≡ Ok s
+        → IfSome (I.left src.old) (λ input. length input ≤ session_limit → IsGood task input
         → (result ≡ Status.Done) ⊎ (result ≡ Status.Memory)) }
     ensures refuses { (Rose (I.faults src.old) (I.faults src.new) → ⊥)
         → (Rose (O.faults out.old) (O.faults out.new) → ⊥)
-        → IfSome (I.left src.old) (λ input. (session_limit < length input)
-        ⊎ ((e : DecodeFault) × (more_session_of_text (migrates task) input ≡ Err e))
+        → IfSome (I.left src.old) (λ input. (session_limit < length input) ⊎ IsRefused task input
         → (result ≡ Status.Session) ⊎ ((result ≡ Status.TooLarge) ⊎ (result ≡ Status.Memory))) }
 {
     match respond_to_source(rt, alloc, gate, task, src) {
@@ -363,10 +406,11 @@ fn make_session<O: Sink>(alloc: Global, seed: u32, replicas: u16, edits: u32, ou
 }
 
 /// Runs the program: reads the words, then the source to its end or to one byte past the limit of 67,108,864 bytes, and decodes the
-/// session. Writes its report, for `check` the line with its counts, or for `migrate` the session as one of version 2. `make` reads no
+/// session. Writes its report, for `check` the line with its counts, for `migrate` the session as one of version 2, or for `pack` the
+/// records of the operations that it makes; `unpack` reads records, and writes the lines of their operations. `make` reads no
 /// source: it makes a session, works it and writes its summary. Only a replay with workers may wait, for the gate and for its threads.
 ///
-/// The output is held whole, the input until it is decoded, or for `migrate` until the output is made. An edit or undo, made or taken,
+/// The output is held whole, the input until it is decoded, or for `migrate` and `unpack` until the output is made. An edit or undo, made or taken,
 /// costs a few descents for each of its pieces and for each run of bytes that it shows or hides, and a line that shows a text as much
 /// as the text. A `give` shares the operation that it names with the buffer. A `reopen` line costs what applying all that its replica
 /// has applied does. A query is answered on a snapshot, for which nothing is copied: a `find` goes over the text once, and keeps 8
@@ -402,30 +446,31 @@ pub fn run<R: Threads + Wait + Sync, I: Source, O: Sink, G: Gate>(
         → (src.new ≡ src.old)
         × ((result ≡ Status.Done) ⊎ ((result ≡ Status.Memory) ⊎ (result ≡ Status.WriteFault))) }
 
-    // Session: the input was read to its end, and has a first bad line.
+    // Session: the input was read to its end, and has a first bad line, or a first operation that is too long for a record, or a
+    // first fault of records.
     ensures session { result ≡ Status.Session → (task : Task)
         × (command_of words.now ≡ Some (Command.Read task))
         × ((input : List ℕ)
         × WasRead (I.left src.old) (I.left src.new) (I.given src.old) (I.given src.new)
         (I.ends src.old) (I.ends src.new) input
         × (length input ≤ session_limit)
-        × ((n : ℕ) × (w : Word)
-        × (more_session_of_text (migrates task) input ≡ Err (DecodeFault.Bad n w))
-        × Appends (O.written out.old) (O.written out.new) (bad_line n w))) }
+        × ((line : List ℕ) × IsBad task input line
+        × Appends (O.written out.old) (O.written out.new) line)) }
     ensures ended { (result ≡ Status.Done) ⊎ (result ≡ Status.Session)
         → (task : Task) → command_of words.now ≡ Some (Command.Read task)
         → Rose (I.ends src.old) (I.ends src.new) }
 
-    // TooLarge: more bytes than the limit were read, or the input was read to its end and has more lines than the limit.
-    ensures large { result ≡ Status.TooLarge →
-        (IfSome (I.left src.old) (λ input. session_limit < length input)
+    // TooLarge: more bytes than the limit were read, or the input was read to its end and has more lines than a session may have.
+    ensures large { result ≡ Status.TooLarge → (task : Task)
+        × (command_of words.now ≡ Some (Command.Read task))
+        × ((IfSome (I.left src.old) (λ input. session_limit < length input)
         × RoseBy (session_limit + 1) (I.given src.old) (I.given src.new)
         × Appends (O.written out.old) (O.written out.new) large_line)
         ⊎ ((input : List ℕ)
         × WasRead (I.left src.old) (I.left src.new) (I.given src.old) (I.given src.new)
         (I.ends src.old) (I.ends src.new) input
-        × (length input ≤ session_limit) × (lines_limit < length (lines_of input))
-        × Appends (O.written out.old) (O.written out.new) many_line) }
+        × (length input ≤ session_limit) × HasMany task input
+        × Appends (O.written out.old) (O.written out.new) many_line)) }
     ensures bounded { I.given src.new ≤ I.given src.old + (session_limit + 1) }
 
     // Faults come only where a count rose.
@@ -450,18 +495,16 @@ pub fn run<R: Threads + Wait + Sync, I: Source, O: Sink, G: Gate>(
     // Memory is free, and nothing was written.
     ensures memory { result ≡ Status.Memory → out.new ≡ out.old }
 
-    // Where no fault was counted, a session within the limit is worked, checked or migrated, and without one the input is refused.
+    // Where no fault was counted, an input within the limit of which the task can make something is read so, and another one is refused.
     ensures completes { (Rose (I.faults src.old) (I.faults src.new) → ⊥)
         → (Rose (O.faults out.old) (O.faults out.new) → ⊥)
         → (task : Task) → command_of words.now ≡ Some (Command.Read task)
-        → IfSome (I.left src.old) (λ input. length input ≤ session_limit
-        → (s : MoreSession) → more_session_of_text (migrates task) input ≡ Ok s
+        → IfSome (I.left src.old) (λ input. length input ≤ session_limit → IsGood task input
         → (result ≡ Status.Done) ⊎ (result ≡ Status.Memory)) }
     ensures refuses { (Rose (I.faults src.old) (I.faults src.new) → ⊥)
         → (Rose (O.faults out.old) (O.faults out.new) → ⊥)
         → (task : Task) → command_of words.now ≡ Some (Command.Read task)
-        → IfSome (I.left src.old) (λ input. (session_limit < length input)
-        ⊎ ((e : DecodeFault) × (more_session_of_text (migrates task) input ≡ Err e))
+        → IfSome (I.left src.old) (λ input. (session_limit < length input) ⊎ IsRefused task input
         → (result ≡ Status.Session) ⊎ ((result ≡ Status.TooLarge) ⊎ (result ≡ Status.Memory))) }
 {
     let command = match command_of(alloc, words) {
