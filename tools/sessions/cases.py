@@ -8,6 +8,7 @@ from typing import Iterator, NamedTuple
 from .comparing import differences
 from .explaining import Explanation
 from .reading import BadLine, TooLarge, migrated, read_session
+from .records import BadRecord, packed, unpacked
 from .replay import Replay, counts_line
 
 TOP = pathlib.Path(__file__).resolve().parents[2]
@@ -20,7 +21,8 @@ class Case(NamedTuple):
     name: str
     command: str
     session: bytes
-    output: str
+    """What is read: a session, or records."""
+    output: bytes
     choices: bool
 
 
@@ -36,10 +38,17 @@ def _cases_of(file: pathlib.Path) -> Iterator[Case]:
         output = output.removesuffix("\n")
     session, has_lines, tried = body.partition("--- lines\n")
     command = re.findall(r"(?m)^words: +(\w+)", head)[0]
+    wanted = _bytes_of(output, "bytes: output" in head)
     for at, line in enumerate(tried.removesuffix("\n").split("\n") if has_lines else [""]):
         whole = session.replace("%\n", line.replace(" / ", "\n") + "\n") if has_lines else session
         name = f"{file.stem}, line {at + 1}" if has_lines else file.stem
-        yield Case(name, command, whole.encode(), output, "choice: |" in head)
+        raw = _bytes_of(whole, "bytes: session" in head)
+        yield Case(name, command, raw, wanted, "choice: |" in head)
+
+
+def _bytes_of(part: str, is_hexadecimal: bool) -> bytes:
+    """The bytes of a part, each of which may stand as two hexadecimal digits."""
+    return bytes.fromhex(part) if is_hexadecimal else part.encode()
 
 
 def all_cases() -> list[Case]:
@@ -47,19 +56,26 @@ def all_cases() -> list[Case]:
     return [case for file in sorted(FOLDER.glob("*.case")) for case in _cases_of(file)]
 
 
-def output_of(case: Case) -> str:
-    """What is worked out for a case, in the form of its output."""
+def output_of(case: Case) -> bytes:
+    """What is worked out for a case."""
     try:
+        if case.command == "unpack":
+            return unpacked(case.session).encode()
         if case.command == "migrate":
-            return migrated(case.session)
+            return migrated(case.session).encode()
         session = read_session(case.session)
-    except (BadLine, TooLarge) as error:
-        return f"{error}\n"
-    if case.command == "check":
-        return counts_line(session) + "\n"
-    replay = Replay(session)
-    if not case.choices:
-        return "".join(f"{line}\n" for line in replay.report())
+        if case.command == "check":
+            return f"{counts_line(session)}\n".encode()
+        replay = Replay(session)
+        return packed(replay) if case.command == "pack" else _report_of(replay, case.choices)
+    except (BadLine, BadRecord, TooLarge) as error:
+        return f"{error}\n".encode()
+
+
+def _report_of(replay: Replay, has_choices: bool) -> bytes:
+    """The report, with the choices of each query in one line."""
+    if not has_choices:
+        return "".join(f"{line}\n" for line in replay.report()).encode()
     lines = [said for said, _ in replay.event_lines()]
     for query in replay.queries:
         last = len(replay.replicas[query.event.replica or 0].applied) - 1
@@ -68,7 +84,11 @@ def output_of(case: Case) -> str:
                 replay.query_line(query, applied) for applied in range(query.applied, last + 1)
             )
         )
-    return "".join(f"{line}\n" for line in lines + replay.last_lines())
+    return "".join(f"{line}\n" for line in lines + replay.last_lines()).encode()
+
+
+def _shown(output: bytes) -> str:
+    return output.decode("utf-8", "backslashreplace")
 
 
 def example_faults() -> Iterator[str]:
@@ -89,6 +109,8 @@ def example_faults() -> Iterator[str]:
 
 def unexplained(case: Case) -> Iterator[str]:
     """The answers of a case, or its bad line, that `tools/why.py` says nothing of."""
+    if case.command in ("pack", "unpack"):
+        return
     explanation = Explanation(case.session, case.command == "migrate")
     said = "\n".join(explanation.of_all())
     if explanation.bad and f"  {explanation.bad.word}: " not in said:
@@ -104,7 +126,7 @@ def test() -> int:
     """Prints what fails and how many cases there are; 1 where one fails."""
     cases = all_cases()
     wrong = [
-        f"{case.name}: wanted\n{case.output}worked out\n{output_of(case)}"
+        f"{case.name}: wanted\n{_shown(case.output)}worked out\n{_shown(output_of(case))}"
         for case in cases
         if output_of(case) != case.output
     ]

@@ -312,10 +312,15 @@ def _names(names: set[str]) -> str:
     return f"there are {', '.join(sorted(names))}" if names else "there is none at all"
 
 
-def cut_lines(raw: bytes) -> list[bytes]:
-    """The lines of the input. Fails with `TooLarge`."""
+def check_size(raw: bytes) -> None:
+    """Fails with `TooLarge` where the input has too many bytes."""
     if len(raw) > MOST_BYTES:
         raise TooLarge("too large: bytes")
+
+
+def cut_lines(raw: bytes) -> list[bytes]:
+    """The lines of the input. Fails with `TooLarge`."""
+    check_size(raw)
     pieces = raw.split(b"\n")
     if not pieces[-1]:
         pieces.pop()

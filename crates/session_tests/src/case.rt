@@ -1,5 +1,7 @@
-//! A case as its file has it: a head, a session and an output.
+//! A case as its file has it: a head, what is read and an output.
 use crate::calls::Ends;
+use op_model::OutOfMemory;
+use std::alloc::Global;
 
 /// A case. `docs/SESSIONS.md` says what its parts are.
 #[derive(Clone, Copy)]
@@ -22,6 +24,8 @@ const KEYS: &[&str] = &[
     "choice: |",
     "no last line feed: session",
     "no last line feed: output",
+    "bytes: session",
+    "bytes: output",
 ];
 
 fn is_known(line: &str) -> bool {
@@ -108,8 +112,53 @@ impl<'a> Case<'a> {
         }
     }
 
+    /// What is read, where this is the session of the case.
+    pub fn input(&self, alloc: Global, session: &str) -> Result<Vec<u8>, OutOfMemory> {
+        bytes_of(alloc, session, value(self.head, "bytes: session"))
+    }
+
+    /// The bytes of the output.
+    pub fn output_bytes(&self, alloc: Global) -> Result<Vec<u8>, OutOfMemory> {
+        bytes_of(alloc, self.output, value(self.head, "bytes: output"))
+    }
+
     /// Whether rows of the output are choices.
     pub fn has_choices(&self) -> bool {
         value(self.head, "choice: |").is_some()
+    }
+}
+
+// The bytes of a part, which stands in hexadecimal digits where there is a line of the head that says so.
+fn bytes_of(alloc: Global, part: &str, line: Option<&str>) -> Result<Vec<u8>, OutOfMemory> {
+    match line {
+        Some(_) => read_digits(alloc, part),
+        None => Ok(part.as_bytes().to_vec(alloc)?),
+    }
+}
+
+// A byte for each two digits. What stands between digits does not count.
+fn read_digits(alloc: Global, part: &str) -> Result<Vec<u8>, OutOfMemory> {
+    let mut bytes = Vec::new(alloc);
+    let mut high: Option<u8> = None;
+    for byte in part.as_bytes() {
+        let Some(digit) = digit_of(*byte) else {
+            continue;
+        };
+        high = match high {
+            Some(before) => {
+                bytes.push(before << 4 | digit)?;
+                None
+            }
+            None => Some(digit),
+        };
+    }
+    Ok(bytes)
+}
+
+fn digit_of(byte: u8) -> Option<u8> {
+    match byte {
+        b'0'..=b'9' => Some(byte - b'0'),
+        b'a'..=b'f' => Some(byte - b'a' + 10),
+        _ => None,
     }
 }

@@ -20,6 +20,12 @@ type Calls = (usize, u64, u64, u64);
 
 const HEADER: &[Part] = &[("[\"zedbuf\",1,\"ab\",[1,2]]\n", 0, 0)];
 
+const EDITED: &str = "[\"zedbuf\",1,\"ab\",[1]]\n[\"edit\",1,[[1,1,\"X\"]]]\n";
+
+// The record of its edit.
+const RECORD: &str = "\x01\0\0\0\x02\0\x01\0\0\0\x01\0\0\0\0\0\x01\0\0\0\x01\0\0\0\
+     \0\0\0\0\x01\0\0\0\0\0\0\0\x01\0\0\0\x01X";
+
 const ROWS: &[Row] = &[
     Row {
         name: "a replay",
@@ -49,6 +55,30 @@ final 2: \"ab\"
         output: "[\"zedbuf\",2,\"ab\",[1,2]]\n",
         calls: &[(1, 1, 25, 24), (7, 1, 5, 4), (8, 1, 4, 3)],
     },
+    Row {
+        name: "a session that is packed",
+        words: "pack",
+        input: &[(EDITED, 0, 0)],
+        status: 0,
+        output: RECORD,
+        calls: &[(1, 1, 46, 42), (7, 1, 8, 6), (8, 1, 7, 6)],
+    },
+    Row {
+        name: "records that are unpacked",
+        words: "unpack",
+        input: &[(RECORD, 0, 0)],
+        status: 0,
+        output: "[\"op\",[2,1],[[0,1]],[[1,1,\"X\"]]]\n",
+        calls: &[(1, 1, 43, 33), (7, 1, 7, 5), (8, 1, 7, 5)],
+    },
+    Row {
+        name: "records with a fault",
+        words: "unpack",
+        input: &[(RECORD, 3, 1)],
+        status: 5,
+        output: "record at 42: kind\n",
+        calls: &[(1, 1, 44, 19), (7, 1, 8, 3), (8, 1, 7, 3)],
+    },
     // No input is read.
     Row {
         name: "a session that is made",
@@ -66,8 +96,8 @@ texts equal
         words: "jump",
         input: HEADER,
         status: 2,
-        output: "usage: zedbuf replay [--workers N] | check | make --seed N --replicas N --edits N | migrate\n",
-        calls: &[(1, 1, 0, 92), (7, 1, 0, 14), (8, 1, 0, 12)],
+        output: "usage: zedbuf replay [--workers N] | check | make --seed N --replicas N --edits N | migrate | pack | unpack\n",
+        calls: &[(1, 1, 0, 108), (7, 1, 0, 16), (8, 1, 0, 14)],
     },
     Row {
         name: "an input that is no session",

@@ -4,6 +4,7 @@ use crate::case::Case;
 use crate::choices::Choices;
 use crate::tally::{Host, Tally};
 use op_model::OutOfMemory;
+use session_replay::MemSink;
 use std::alloc::Global;
 use std::rt::Files;
 use std::sync::Wait;
@@ -60,8 +61,8 @@ fn test_file<R: Host + Files>(rt: &R, tally: &mut Tally, name: &str) {
         Ok(text) => match Case::read(text.as_str()) {
             Some(case) => {
                 test_case(rt, tally, name, &case);
-                if name.starts_with("example_") {
-                    test_migration(rt, tally, name, &case);
+                if name.starts_with("example_") && case.ends().status == 0 {
+                    test_example(rt, tally, name, &case);
                 }
             }
             None => tally.note(rt, name, "the file is no case", false),
@@ -78,11 +79,42 @@ fn test_case<R: Host>(rt: &R, tally: &mut Tally, name: &str, case: &Case<'_>) {
     }
 }
 
-fn test_migration<R: Host>(rt: &R, tally: &mut Tally, name: &str, case: &Case<'_>) {
-    if case.ends().status == 0 {
-        let is_right = reports_alike(rt, rt.alloc(), case) == Ok(true);
-        tally.note(rt, name, "migrate", is_right);
-    }
+fn test_example<R: Host>(rt: &R, tally: &mut Tally, name: &str, case: &Case<'_>) {
+    let is_right = reports_alike(rt, rt.alloc(), case) == Ok(true);
+    tally.note(rt, name, "migrate", is_right);
+    let is_right = packs_again(rt, rt.alloc(), case) == Ok(true);
+    tally.note(rt, name, "pack, unpack and pack", is_right);
+}
+
+// What a command makes of an input, if it ends with status 0.
+fn made_of<R: Threads + Wait + Sync>(
+    rt: &R,
+    alloc: Global,
+    words: &str,
+    input: &[u8],
+) -> Result<Option<MemSink>, OutOfMemory> {
+    let run = Run {
+        words,
+        input,
+        ends: AMPLE,
+    };
+    sink_after(rt, alloc, &Passing, run)
+}
+
+// Whether a command makes these bytes of an input.
+fn makes<R: Threads + Wait + Sync>(
+    rt: &R,
+    alloc: Global,
+    words: &str,
+    input: &[u8],
+    output: &[u8],
+) -> Result<bool, OutOfMemory> {
+    let run = Run {
+        words,
+        input,
+        ends: AMPLE,
+    };
+    comes_to(rt, alloc, &Passing, run, Wanted::Bytes(output))
 }
 
 // Whether the session as one of version 2 has the report of the case.
@@ -91,26 +123,28 @@ fn reports_alike<R: Threads + Wait + Sync>(
     alloc: Global,
     case: &Case<'_>,
 ) -> Result<bool, OutOfMemory> {
-    let run = Run {
-        words: "migrate",
-        input: case.session.as_bytes(),
-        ends: AMPLE,
-    };
-    let Some(sink) = sink_after(rt, alloc, &Passing, run)? else {
+    let Some(sink) = made_of(rt, alloc, "migrate", case.session.as_bytes())? else {
         return Ok(false);
     };
-    let run = Run {
-        words: "replay --workers 0",
-        input: sink.bytes(),
-        ends: AMPLE,
+    let report = case.output.as_bytes();
+    makes(rt, alloc, "replay --workers 0", sink.bytes(), report)
+}
+
+// Whether the records of the session, as lines after a header, have the same records.
+fn packs_again<R: Threads + Wait + Sync>(
+    rt: &R,
+    alloc: Global,
+    case: &Case<'_>,
+) -> Result<bool, OutOfMemory> {
+    let Some(packed) = made_of(rt, alloc, "pack", case.session.as_bytes())? else {
+        return Ok(false);
     };
-    comes_to(
-        rt,
-        alloc,
-        &Passing,
-        run,
-        Wanted::Bytes(case.output.as_bytes()),
-    )
+    let Some(unpacked) = made_of(rt, alloc, "unpack", packed.bytes())? else {
+        return Ok(false);
+    };
+    let mut session = b"[\"zedbuf\",2,\"\",[1]]\n".to_vec(alloc)?;
+    session.extend_from_slice(unpacked.bytes())?;
+    makes(rt, alloc, "pack", &session, packed.bytes())
 }
 
 fn test_words<R: Host>(rt: &R, tally: &mut Tally, name: &str, case: &Case<'_>, words: &str) {
@@ -155,9 +189,11 @@ fn is_right<R: Threads + Wait + Sync>(
     words: &str,
     session: &str,
 ) -> Result<bool, OutOfMemory> {
+    let input = case.input(alloc, session)?;
+    let output = case.output_bytes(alloc)?;
     let run = Run {
         words,
-        input: session.as_bytes(),
+        input: &input,
         ends: case.ends(),
     };
     let wanted = if case.has_choices() {
@@ -167,7 +203,7 @@ fn is_right<R: Threads + Wait + Sync>(
             rows: case.output,
         })
     } else {
-        Wanted::Bytes(case.output.as_bytes())
+        Wanted::Bytes(&output)
     };
     comes_to(rt, alloc, &Passing, run, wanted)
 }

@@ -182,6 +182,91 @@ const ROWS: &[Row] = &[
         output: &[("[\"zedbuf\",2,\"", b'a', LIMIT - 19), ("\",[1]]\n", 0, 0)],
         is_whole: true,
     },
+    // An `op` line may have more than a record, and a bad line after it is named first.
+    Row {
+        name: "a text that is too long for a record",
+        words: "pack",
+        input: &[(OPERATION, b'a', 65_537), ("\"]]]\n", 0, 0)],
+        ends: Ends { status: 5, ..AMPLE },
+        output: &[("session line 2: long\n", 0, 0)],
+        is_whole: true,
+    },
+    Row {
+        name: "a text that is too long for a record, before a bad line",
+        words: "pack",
+        input: &[(OPERATION, b'a', 65_537), ("\"]]]\n[1]\n", 0, 0)],
+        ends: Ends { status: 5, ..AMPLE },
+        output: &[("session line 3: shape\n", 0, 0)],
+        is_whole: true,
+    },
+    Row {
+        name: "as long a text as a record may have",
+        words: "pack",
+        input: &[(OPERATION, b'a', 65_536), ("\"]]]\n", 0, 0)],
+        ends: AMPLE,
+        output: LONG_RECORD,
+        is_whole: true,
+    },
+    Row {
+        name: "as long a text as a record may have",
+        words: "unpack",
+        input: LONG_RECORD,
+        ends: AMPLE,
+        output: &[
+            ("[\"op\",[2,1],[[0,1]],[[0,0,\"", b'a', 65_536),
+            ("\"]]]\n", 0, 0),
+        ],
+        is_whole: true,
+    },
+    Row {
+        name: "as many pieces as a record may have",
+        words: "unpack",
+        input: &[(STAMPED, 0, 1), ("\x01\0\0", 0, 1_310_720)],
+        ends: AMPLE,
+        output: &[("[\"op\",[2,1],[],[[0,0,\"\"],[0,0,\"\"],", 0, 0)],
+        is_whole: false,
+    },
+    Row {
+        name: "one piece more than a record may have",
+        words: "unpack",
+        input: &[(STAMPED, 0, 1), ("\x01\0\x01", 0, 1_310_740)],
+        ends: Ends { status: 5, ..AMPLE },
+        output: &[("record at 11: long\n", 0, 0)],
+        is_whole: true,
+    },
+    Row {
+        name: "one line more than there may be",
+        words: "pack",
+        input: &[("", b'\n', LINES + 1)],
+        ends: Ends { status: 6, ..SHORT },
+        output: &[("too large: lines\n", 0, 0)],
+        is_whole: true,
+    },
+    // Records may have as many line feeds as they have bytes.
+    Row {
+        name: "more line feeds than a session may have lines",
+        words: "unpack",
+        input: &[("", b'\n', LINES + 1)],
+        ends: Ends { status: 5, ..SHORT },
+        output: &[("record at 0: kind\n", 0, 0)],
+        is_whole: true,
+    },
+    Row {
+        name: "as many bytes as there may be",
+        words: "unpack",
+        input: &[("", 0, LIMIT)],
+        ends: Ends { status: 5, ..SHORT },
+        output: &[("record at 0: kind\n", 0, 0)],
+        is_whole: true,
+    },
+    Row {
+        name: "more bytes than there may be",
+        words: "unpack",
+        input: &[("", 0, LIMIT + 1)],
+        ends: Ends { status: 6, ..SHORT },
+        output: &[("too large: bytes\n", 0, 0)],
+        is_whole: true,
+    },
     Row {
         name: NEEDLE,
         words: "replay --workers 0",
@@ -198,6 +283,20 @@ const ROWS: &[Row] = &[
         output: FOUND,
         is_whole: false,
     },
+];
+
+const OPERATION: &str = "[\"zedbuf\",1,\"ab\",[1]]\n[\"op\",[2,1],[[0,1]],[[0,0,\"";
+
+// The record of an edit up to its version, which is empty.
+const STAMPED: &str = "\x01\0\0\0\x02\0\x01\0\0\0\0";
+
+const LONG_RECORD: &[Part] = &[
+    (
+        "\x01\0\0\0\x02\0\x01\0\0\0\x01\0\0\0\0\0\x01\0\0\0\x01",
+        0,
+        0,
+    ),
+    ("\0\0\0\0\0\0\0\0\0\0\0\0\0\0\0\0\0\x01\0\0", b'a', 65_536),
 ];
 
 const LONG_FRONT: &str = "1: textlimit 65537
