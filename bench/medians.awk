@@ -1,5 +1,5 @@
 # Lines 'WHO WORK ANSWER MICROSECONDS' become, for each work, the medians and the ratios of the proved one and each of its
-# peers, of which there may be one or two. A line without a time is a count, and is written as it is, once.
+# peers, of which there may be none, one or two. A line without a time is a count, and is written as it is, once.
 # Arguments: -v peers="FIRST SECOND" -v width=COLUMNS, of the names of works.
 BEGIN { split(peers, peer, " ") }
 NF == 3 { if (!(($1, $2) in counts)) print $1, $2, $3; counts[$1, $2] = $3; next }
@@ -18,6 +18,10 @@ function median(key,    i, j, t, k) {
     return k == 0 ? 0 : a[int((k + 1) / 2)]
 }
 function row(work, proved, first, second, first_ratio, second_ratio) {
+    if (peer[1] == "") {
+        printf "%-" width "s %10s\n", work, proved
+        return
+    }
     if (peer[2] == "") {
         printf "%-" width "s %10s %10s %8s\n", work, proved, first, first_ratio
         return

@@ -10,6 +10,9 @@ from collections import defaultdict
 
 from plots import bars, curves
 
+# How both are called on the page.
+NAMES = {"zedbuf": "zedbuf", "yjs": "Yjs"}
+
 runs = defaultdict(list)    # (who, session): processor seconds, seconds by the clock, KiB at the peak, of each round
 calls = defaultdict(list)   # (who, call, work): microseconds a call, of each round
 edits, differs, loads, held = {}, set(), [], 0
@@ -42,12 +45,16 @@ def least(who, session):
     return min(runs[who, session])[0] if runs[who, session] else None
 
 
+# A difference of two sessions that is less than this part of the greater one is not told apart from what runs differ by.
+TOLD = 0.03
+
+
 def each(who, session, without, count=None):
-    """The microseconds that each of the operations takes which the one session has and the other has not; a nanosecond at least."""
+    """The microseconds that each of the operations takes which the one session has and the other has not; None if the clock does not tell."""
     whole, rest = least(who, session), least(who, without)
-    if whole is None or rest is None:
+    if whole is None or rest is None or whole - rest < TOLD * whole:
         return None
-    return max((whole - rest) / (count or edits[session]) * 1e6, 0.001)
+    return (whole - rest) / (count or edits[session]) * 1e6
 
 
 def peak(who, session):
@@ -62,7 +69,7 @@ def spread(who, session):
 def exponent(who, small, great):
     """How the time of so many operations in reverse grows with their number."""
     times = [each(who, f"reverse_{n}", f"typed_{n}", 1) for n in (small, great)]
-    return math.log(times[1] / times[0]) / math.log(great / small)
+    return math.log(times[1] / times[0]) / math.log(great / small) if all(times) else None
 
 
 def remote_of_rounds(who):
@@ -72,8 +79,8 @@ def remote_of_rounds(who):
 
 def local_of_rounds(who):
     """What is left of an edit in rounds where three others have taken it: too small a difference under a load."""
-    left = each(who, "rounds", "empty") - 3 * remote_of_rounds(who)
-    return left if left > 0 else None
+    whole, taken = each(who, "rounds", "empty"), remote_of_rounds(who)
+    return whole - 3 * taken if taken and whole > 3 * taken * (1 + TOLD) else None
 
 
 def at_a_replica(who):
@@ -95,8 +102,8 @@ def undo_of(made, order):
     return f"an undo of one of {ORDERS[order]} tenth of edits {MADE[made]}"
 
 
-def rows():
-    """A name, the session that shows the spread, and the microseconds of an operation in both."""
+def all_rows():
+    """A name, the session that shows the spread, and the microseconds of an operation in both, None where the clock does not tell."""
     def row(name, session, time):
         return (name, session, time("zedbuf"), time("yjs"))
 
@@ -108,11 +115,11 @@ def rows():
     yield row("four authors in rounds: an edit at one of the four", "rounds", at_a_replica)
     yield row("four authors in rounds: an edit of one's own", "rounds", local_of_rounds)
     yield row("four authors in rounds: an edit of another", "rounds_taken", remote_of_rounds)
-    yield row("8,000 edits taken in order, behind the last", "ordered_8000", of("ordered_8000", "typed_8000"))
+    yield row("8,000 edits taken in order, after the last", "ordered_8000", of("ordered_8000", "typed_8000"))
     for n in 2000, 4000, 8000, 16000, 32000, 64000:
         yield row(f"{n:,} edits taken in reverse", f"reverse_{n}", of(f"reverse_{n}", f"typed_{n}"))
     for n in 1000, 2000, 4000, 8000:
-        yield row(f"{n:,} taken in reverse, an edit of one's own behind each", f"beside_{n}", of(f"beside_{n}", f"typed_{n}", n))
+        yield row(f"{n:,} taken in reverse, an edit of one's own after each", f"beside_{n}", of(f"beside_{n}", f"typed_{n}", n))
     for made in MADE:
         for order in ORDERS:
             for n in 20_000, 200_000:
@@ -121,6 +128,17 @@ def rows():
         yield row(f"a random edit over a base of {size} MiB", f"random_{size}", of(f"random_{size}", f"base_{size}"))
     anchors = {"zedbuf": 20_000, "yjs": 40}
     yield row("an anchor made and asked for, after 100,000 random edits", "many", lambda who: each(who, f"many_{anchors[who]}", "many", anchors[who]))
+
+
+def rows():
+    """The rows that the clock tells."""
+    return [row for row in all_rows() if row[2] is not None]
+
+
+def untold():
+    """A sentence that names the others."""
+    names = [name for name, _, own, _ in all_rows() if own is None]
+    return f"Too short for the clock, so without a row: {'; '.join(names)}.\n" if names else ""
 
 
 def called(who, call, work):
@@ -165,14 +183,18 @@ def goals():
                              ("an edit at one of four authors", at_a_replica("zedbuf"), 12),
                              ("an edit in reverse, 8,000", each("zedbuf", "reverse_8000", "typed_8000"), 20),
                              ("an edit in reverse, 64,000", each("zedbuf", "reverse_64000", "typed_64000"), 20)):
-        yield f"{name}, us", number(time), str(goal), time <= goal
+        if time is not None:
+            yield f"{name}, us", number(time), str(goal), time <= goal
     growth = exponent("zedbuf", 8000, 64000)
-    yield "exponent of growth in reverse, 8,000 to 64,000", f"{growth:.2f}", "1.1", growth <= 1.1
+    if growth is not None:
+        yield "exponent of growth in reverse, 8,000 to 64,000", f"{growth:.2f}", "1.1", growth <= 1.1
     for made, goal in ("undone", 15), ("strewn", 40):
         for order in ORDERS:
             few, many = (undo("zedbuf", made, order, n) for n in (20_000, 200_000))
-            yield f"{undo_of(made, order)}, 200,000, us", number(many), str(goal), many <= goal
-            yield f"{undo_of(made, order)}, 200,000 by 20,000", f"{many / few:.2f}", "1.5", many <= 1.5 * few
+            if many is not None:
+                yield f"{undo_of(made, order)}, 200,000, us", number(many), str(goal), many <= goal
+            if few is not None and many is not None:
+                yield f"{undo_of(made, order)}, 200,000 by 20,000", f"{many / few:.2f}", "1.5", many <= 1.5 * few
     memory = bytes_an_edit("zedbuf", 260_000)
     for goal in 900, 700:
         yield "bytes an edit at the peak", number(memory), str(goal), memory <= goal
@@ -199,7 +221,7 @@ def call_table():
     for mib, size in (1, 1048576), (16, 16777216):
         call = f"snapshot {size}"
         works += [(f"a snapshot, text of {mib} MiB", call, "Snapshots", "Snapshots"), (f"a copy of the text, {mib} MiB", call, "", "Texts"),
-                  (f"a snapshot and an edit behind it, {mib} MiB", call, "SnapshotEdits", "SnapshotEdits"), (f"an edit, {mib} MiB", call, "Edits", "Edits")]
+                  (f"a snapshot and an edit after it, {mib} MiB", call, "SnapshotEdits", "SnapshotEdits"), (f"an edit, {mib} MiB", call, "Edits", "Edits")]
     for name, call, own, peer in works:
         own, peer = called("zedbuf", call, own), called("yjs", call, peer)
         yield (name, number(own and own[0]), number(peer and peer[0]), ratio(own and own[0], peer and peer[0]),
@@ -223,12 +245,22 @@ def session_table():
         for who in "zedbuf", "yjs":
             if runs[who, name]:
                 best = min(runs[who, name])
-                yield name, who, f"{best[0]:.2f}", f"{best[1]:.2f}", f"{peak(who, name) / 2**20:,.0f}"
+                yield name, NAMES[who], f"{best[0]:.2f}", f"{best[1]:.2f}", f"{peak(who, name) / 2**20:,.0f}"
 
 
 def memory_table():
     for count in 65_000, 130_000, 260_000:
         yield f"{count:,}", *(number(bytes_an_edit(who, count)) for who in ("zedbuf", "yjs"))
+
+
+def growth():
+    """How edits in reverse grow in both, where the clock tells it."""
+    own, peer = exponent("zedbuf", 8000, 64000), exponent("yjs", 2000, 8000)
+    if own is None or peer is None:
+        return ""
+    return f"""In reverse, time grows with the number of edits by an exponent of {own:.2f} (8,000 to 64,000), and of
+{peer:.2f} in Yjs (2,000 to 8,000).
+"""
 
 
 def page():
@@ -250,9 +282,9 @@ their lines and the writing of their report. `peers.txt` lists the sessions.
 ## An operation, in microseconds
 
 {table(["", "zedbuf", "Yjs", "zedbuf / Yjs", "spread", "spread of Yjs"], time_table())}
-In reverse, time grows with the number of edits by an exponent of {exponent("zedbuf", 8000, 64000):.2f} (8,000 to 64,000), and of
-{exponent("yjs", 2000, 8000):.2f} in Yjs (2,000 to 8,000). Yjs's manager of undos undoes the last edit alone.
-A session has at most 64 MiB with its escapes, so the longer base has 62.
+{growth()}{untold()}Yjs has no time, and no bar, where it is not asked: its manager of undos undoes the last edits alone, those of typing are tried; edits in reverse
+take it seconds from some thousands on, so it gets no more than 8,000, and 2,000 with edits of one's own between.
+A session has at most 64 MiB with its escapes, so the longer base has 62. The axis of the plot is logarithmic.
 
 ![Microseconds an operation](peers-operations.svg)
 
@@ -263,7 +295,7 @@ A session has at most 64 MiB with its escapes, so the longer base has 62.
 {table(["edits typed", "zedbuf, bytes an edit", "Yjs, bytes an edit"], memory_table())}
 At the peak of the process, less what it takes without edits. Of the bytes here {read:,.0f} are the session, read and decoded
 (`zedbuf check`). Yjs's peak is that of its garbage and of the lines as objects: its document
-holds {held / 260_000:.0f} bytes an edit once that is gone, since it merges letters that were typed one behind the other, and forgets what
+holds {held / 260_000:.0f} bytes an edit once that is gone, since it merges letters that were typed one after the other, and forgets what
 was deleted. Here each edit keeps an operation and a fragment of its own, and every version can be read.
 
 ![Peak of memory](peers-memory.svg)
@@ -274,13 +306,13 @@ was deleted. Here each edit keeps an operation and a fragment of its own, and ev
 
 
 def draw(folder):
-    shown = [(name, own, peer) for name, _, own, peer in rows() if own and own > 0]
-    bars(f"{folder}/peers-operations.svg", "microseconds an operation", ("zedbuf", "Yjs"), shown)
+    shown = [(name, own, peer) for name, _, own, peer in rows()]
+    bars(f"{folder}/peers-operations.svg", "microseconds an operation, on a logarithmic axis", tuple(NAMES.values()), shown)
     sizes = {"zedbuf": (2000, 4000, 8000, 16000, 32000, 64000), "yjs": (2000, 4000, 8000)}
-    reverse = {who: [(n, each(who, f"reverse_{n}", f"typed_{n}")) for n in sizes[who]] for who in sizes}
-    curves(f"{folder}/peers-reverse.svg", "edits taken in reverse", "microseconds each", reverse)
-    memory = {who: [(n, peak(who, f"paper_{n}") / 2**20) for n in (65_000, 130_000, 260_000)] for who in ("zedbuf", "yjs")}
-    curves(f"{folder}/peers-memory.svg", "edits typed", "MiB at the peak", memory)
+    reverse = {NAMES[who]: [(n, time) for n in sizes[who] if (time := each(who, f"reverse_{n}", f"typed_{n}"))] for who in sizes}
+    curves(f"{folder}/peers-reverse.svg", "edits taken in reverse", "microseconds each; both axes are logarithmic", reverse)
+    memory = {NAMES[who]: [(n, peak(who, f"paper_{n}") / 2**20) for n in (65_000, 130_000, 260_000)] for who in NAMES}
+    curves(f"{folder}/peers-memory.svg", "edits typed", "MiB at the peak; both axes are logarithmic", memory)
 
 
 draw(sys.argv[2])

@@ -1,0 +1,89 @@
+"""Makes RESULTS.md of what the works of a list printed, on standard output.
+
+usage: results.py LIST FOLDER     FOLDER has a file for each work: a line with the commit, the day and the load, the command, what it printed
+"""
+import os
+import pathlib
+import re
+import subprocess
+import sys
+
+# What is aimed at: a work, a row of what it prints, a column of it, what this is divided by, the most that it may be, and what it is then.
+AIMS = [
+    *(("trees", row, "p/tree", 1, 1.3, "of a plain tree's time") for row in
+      "Push Get SharePush FromList Type ShareType Fill Find Insert Remove".split()),
+    *(("ropes", row, "p/plain", 1, 1.3, "of a plain rope's time") for row in
+      "Build Points Offsets Shares Replaces ShareReplaces".split()),
+    *(("search", row, "p/flat", 1, 1.5, "of a flat search's time") for row in "Absent Rare Frequent".split()),
+    ("search", "Periodic", "p/linear", 1, 3, "of a linear search's time"),
+    ("spans", "AtText", "proved", 100_000, 0.5, "microseconds each"),
+    ("spans", "AtShown", "proved", 100_000, 0.5, "microseconds each"),
+    ("spans", "TouchReplace", "proved", 100_000, 5, "microseconds each"),
+    ("anchors", "Anchors", "proved", 10_000, 1, "microseconds each"),
+    ("anchors", "Resolve", "proved", 100_000, 1, "microseconds each"),
+    ("anchors", "Compare", "proved", 100_000, 1, "microseconds each"),
+    ("selections", "Selects", "proved", 10_000, 2.5, "milliseconds for 1,024 ranges"),
+    ("selections", "SelectedPlaces", "proved", 10_000, 2.5, "milliseconds for 1,024 ranges"),
+    ("opening", "Typed", "p/taken", 1, 0.7, "of the time of taking"),
+    ("opening", "Random", "p/taken", 1, 1.0, "of the time of taking"),
+    ("opening", "Rounds", "p/taken", 1, 0.7, "of the time of taking"),
+    ("opening", "Undone", "p/taken", 1, 1.0, "of the time of taking"),
+    ("forgetting", "Forgets", "proved", 1_000_000, 3, "microseconds each"),
+    ("interface", "TypeAsIs", "C/library", 1, 1.1, "of the library's instructions"),
+]
+
+HEAD = """# Results
+
+Written by `bench/results.sh` of what the works printed on {machine}. [README.md](README.md) says what the works are.
+Each has the commit, the day and what else the machine did; an aim is the most that was aimed at. Where no unit stands, times are microseconds of all
+calls of a work.
+"""
+
+
+def output_of(command):
+    return subprocess.run(command, shell=True, capture_output=True, text=True).stdout.strip()
+
+
+def machine():
+    model = output_of("lscpu | sed -n 's/^Model name: *//p'")
+    return f"{os.cpu_count()} processors ({model})"
+
+
+def rows_of(lines):
+    """For each row of a table, the fields by the names of its columns."""
+    rows, names = {}, []
+    for line in lines:
+        fields = line.split()
+        if fields[:1] in (["work"], ["instructions"]):
+            names = fields
+        elif names and len(fields) == len(names):
+            rows[fields[0]] = dict(zip(names, fields))
+    return rows
+
+
+def aims_of(name, lines):
+    rows = rows_of(lines)
+    for work, row, column, divisor, most, words in AIMS:
+        if work == name and re.fullmatch(r"[\d.]+", rows.get(row, {}).get(column, "")):
+            value = float(rows[row][column]) / divisor
+            yield f"| `{row}` | {most:g} {words} | {value:.2g} | {'yes' if value <= most else '**no**'} |"
+
+
+def section(name, lines):
+    when, command, *printed = lines
+    aims = list(aims_of(name, printed))
+    table = ["| | aim | measured | met |", "|---|---|---|---|", *aims, ""] if aims else []
+    return "\n".join([f"## {name.capitalize().replace('_', ' and ')}", "", f"`{command}`, {when}", "", "```", *printed, "```", "", *table])
+
+
+def main():
+    listed, folder = map(pathlib.Path, sys.argv[1:])
+    parts = [HEAD.format(machine=machine())]
+    for line in listed.read_text().splitlines():
+        file = folder / (line.split() or ["#"])[0]
+        if file.is_file():
+            parts.append(section(file.name, file.read_text().splitlines()))
+    print("\n".join(parts).rstrip("\n"))
+
+
+main()
