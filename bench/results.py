@@ -1,11 +1,9 @@
 """Makes RESULTS.md of what the works of a list printed, on standard output.
 
-usage: results.py LIST FOLDER     FOLDER has a file for each work: a line with the commit, the day and the load, the command, what it printed
+usage: results.py LIST FOLDER     FOLDER has a file for each work: a line with the commit, the day, the machine and its load, the command, what it printed
 """
-import os
 import pathlib
 import re
-import subprocess
 import sys
 
 # What is aimed at: a work, a row of what it prints, a column of it, what this is divided by, the most that it may be, and what it is then.
@@ -34,19 +32,12 @@ AIMS = [
 
 HEAD = """# Results
 
-Written by `bench/results.sh` of what the works printed on {machine}. [README.md](README.md) says what the works are.
-Each has the commit, the day and what else the machine did; an aim is the most that was aimed at. Where no unit stands, times are microseconds of all
-calls of a work.
+Made by `results.py` of the files in `measured/`. [README.md](README.md) says what the works are.
+
+`results.sh` puts what a work prints into its file, below the commit, the day, the machine and its load. Where 'entered by hand' stands, the table was
+made by hand of what the command printed in one run or several. An aim is the most that was aimed at. Where no unit stands, times are microseconds
+of all calls of a work.
 """
-
-
-def output_of(command):
-    return subprocess.run(command, shell=True, capture_output=True, text=True).stdout.strip()
-
-
-def machine():
-    model = output_of("lscpu | sed -n 's/^Model name: *//p'")
-    return f"{os.cpu_count()} processors ({model})"
 
 
 def rows_of(lines):
@@ -78,7 +69,7 @@ def section(name, lines):
 
 def main():
     listed, folder = map(pathlib.Path, sys.argv[1:])
-    parts = [HEAD.format(machine=machine())]
+    parts = [HEAD]
     for line in listed.read_text().splitlines():
         file = folder / (line.split() or ["#"])[0]
         if file.is_file():

@@ -22,12 +22,15 @@ built() {
     echo "$here/../crates/$1/out/$1"
 }
 
-# ran PROGRAM CLOCK COMMAND: the commit, the day and the load, the command, and what it prints
+# machine: the processors and their model
+machine() { echo "$(nproc) processors ($(lscpu | sed -n 's/^Model name: *//p'))"; }
+
+# ran PROGRAM CLOCK COMMAND: the commit, the day, the machine and its load, the command, and what it prints
 ran() {
     local path clock=
     path=$(built "$1")
     [ "$2" != processor ] || clock=$work/clock.so
-    echo "commit $(git -C "$here" rev-parse --short=8 HEAD), $(date +%F), load $(cut -d ' ' -f 1-3 /proc/loadavg)"
+    echo "commit $(git -C "$here" rev-parse --short=8 HEAD), $(date +%F), on $(machine), load $(cut -d ' ' -f 1-3 /proc/loadavg)"
     echo "$3"
     (cd "$here/.." && BENCH=$path ZEDBUF=$path LD_PRELOAD=$clock bash -c "$3" </dev/null 2>&1) || echo "it ended with status $?"
 }
