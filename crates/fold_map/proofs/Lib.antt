@@ -18,3 +18,4 @@ pub mod Groups
 pub mod Later
 pub mod Going
 pub mod Turns
+pub mod Within
