@@ -8,6 +8,8 @@ use Rattle.multi_buffer.specs.contracts.excerpt.Excerpt as excerpt
 use Rattle.multi_buffer.specs.contracts.lengths.Lengths as lengths
 use Rattle.multi_buffer.specs.contracts.excerpts.Excerpts as excerpts
 use Rattle.multi_buffer.specs.contracts.excerpts.Excerpts.TheInside as held
+use Rattle.multi_buffer.specs.contracts.members.Member as member
+use Rattle.multi_buffer.specs.contracts.reach.Reach as reach
 use Rattle.multi_buffer.specs.contracts.source.Source as source
 use Rattle.multi_buffer.specs.contracts.multi.MultiBuffer as multi
 use Rattle.multi_buffer.specs.contracts.multi.MultiBuffer.TheInside as inside
@@ -26,13 +28,27 @@ lengths_sent = search plain depth 60 fits 20000
 lengths_shared : IsSync lengths.the_row
 lengths_shared = search plain depth 60 fits 20000
 
+member_sent : IsSend member.the_row
+member_sent = search plain depth 60 fits 20000
+
+member_shared : IsSync member.the_row
+member_shared = search plain depth 60 fits 20000
+
+reach_sent : IsSend reach.the_row
+reach_sent = search plain depth 60 fits 20000
+
+reach_shared : IsSync reach.the_row
+reach_shared = search plain depth 60 fits 20000
+
 ruleset trees = (excerpt_sent, excerpt_shared, lengths_sent, lengths_shared, knot.crosses, crosses, sendable)
 
+ruleset member_trees = (member_sent, member_shared, reach_sent, reach_shared, knot.crosses, crosses, sendable)
+
 held_sent : IsSend held.the_row
-held_sent = declared_send held.the_type (search trees depth 60 fits 20000, tt)
+held_sent = declared_send held.the_type (search trees depth 60 fits 20000, (search member_trees depth 60 fits 20000, tt))
 
 held_shared : IsSync held.the_row
-held_shared = declared_sync held.the_type (search trees depth 60 fits 20000, tt)
+held_shared = declared_sync held.the_type (search trees depth 60 fits 20000, (search member_trees depth 60 fits 20000, tt))
 
 excerpts_sent : IsSend excerpts.the_row
 excerpts_sent = search (held_sent, sendable) depth 60 fits 20000

@@ -1,9 +1,7 @@
 -- Excerpts that are made, and excerpts of a history in a later one.
-use Rattle.std.proofs.Common.{◌≡◌, inl, inr, ℕ, zero, suc, ◌+◌, ◌≤◌, ◌&&◌, not, Bool, true, false, cond, eqb, ltb, List, [], ◌∷◌, ◌++◌, length, map, take, Option, Some, None, is_some, Result, Ok, Err, IfOk, refl, sym, ap, ◌∙◌, subst, arith}
+use Rattle.std.proofs.Common.{◌≡◌, inl, inr, ℕ, zero, suc, ◌≤◌, ◌&&◌, not, Bool, true, false, cond, eqb, ltb, List, [], ◌∷◌, ◌++◌, length, map, Option, Some, None, is_some, refl, sym, ap, ◌∙◌, subst, arith}
 use Rattle.std.specs.Prelude.{slice_get}
 use Rattle.std.specs.List.{AllByRecursion}
-use Rattle.std.proofs.lemmas.List.{map_push, take_all, take_more}
-use Rattle.std.proofs.lemmas.Option.{slice_get_within, get_or_from_slice_get}
 use Rattle.std.specs.declared.cmp.Ordering.TheVariants.{Less}
 use Rattle.std.proofs.lemmas.Bool.{cases_Bool, le-ltb, ltb-false, eqb-true, eq-eqb}
 use Rattle.std.proofs.lemmas.Option.{same_Some}
@@ -288,20 +286,6 @@ pub follow_at : (b : ℕ) (h : History) (xs : List Excerpt) (i : ℕ) (x : Excer
 follow_at b h [] i x m e = cc
 follow_at b h (y ∷ xs) zero x m e = let q : y ≡ x = cc in subst (MayFollowIn b h) q m.0
 follow_at b h (y ∷ xs) (suc i) x m e = follow_at b h xs i x m.1 e
-
-pub follow_more : (b : ℕ) (h : History) (xs : List Excerpt) (i : ℕ) (x : Excerpt) (done : List Excerpt) → slice_get xs i ≡ Some x → done ≡ map (followed_in b h) (take i xs)
-    → done ++ followed_in b h x ∷ [] ≡ map (followed_in b h) (take (i + 1) xs)
-follow_more b h xs i x done e d =
-    let t : take (i + 1) xs ≡ take i xs ++ x ∷ [] = take_more xs i x (slice_get_within xs i x e) ∙ ap (λ (y : Excerpt). take i xs ++ y ∷ []) (get_or_from_slice_get xs i x x e) in
-    ap (λ (ys : List Excerpt). ys ++ followed_in b h x ∷ []) d
-    ∙ sym (map_push (followed_in b h) (take i xs) x) ∙ ap (map (followed_in b h)) (sym t)
-
-pub follow_whole : (b : ℕ) (h : History) (xs : List Excerpt) (i : ℕ) (done : List Excerpt) → done ≡ map (followed_in b h) (take i xs) → length xs ≤ i → done ≡ map (followed_in b h) xs
-follow_whole b h xs i done d l = d ∙ ap (map (followed_in b h)) (take_all i xs l)
-
-pub if_ok : {T E : Type 0} (P Q : T → Type 0) → ((x : T) → P x → Q x) → (r : Result T E) → IfOk r P → IfOk r Q
-if_ok P Q f (Ok x) p = f x p
-if_ok P Q f (Err e) p = tt
 
 -- ---- what calls leave
 

@@ -1,10 +1,12 @@
 pub mod Sums
 pub mod Stops
 pub mod Sourced
+pub mod Indexed
 pub mod Boundaries
 pub mod Lines
 pub mod Answering
 pub mod Followed
+pub mod Turns
 pub mod Versions
 pub mod Crossing
 pub mod Faultless
@@ -14,6 +16,7 @@ pub mod Replacing
 pub mod Owned
 pub mod Grouped
 pub mod Kept
+pub mod Ends
 pub mod Around
 pub mod Through
 pub mod Rooms

@@ -1,6 +1,5 @@
 -- Parts by the excerpt that a seek finds, and how the pieces of changes are gathered.
-use Rattle.std.proofs.Common.{◌≡◌, inl, inr, ℕ, zero, suc, ◌+◌, ◌-◌, ◌≤◌, ◌<◌, Bool, true, false, cond, leb, List, [], ◌∷◌, ◌++◌, length, drop, Option, Some, None, is_some, refl, sym, ap, ◌∙◌, subst, arith}
-use Rattle.std.specs.Prelude.{slice_get}
+use Rattle.std.proofs.Common.{◌≡◌, inl, inr, ℕ, suc, ◌+◌, ◌-◌, ◌≤◌, ◌<◌, Bool, true, false, cond, leb, List, [], ◌∷◌, ◌++◌, length, Option, Some, None, is_some, refl, sym, ap, ◌∙◌, arith}
 use Rattle.std.specs.List.{AllByRecursion}
 use Rattle.std.proofs.lemmas.Bool.{cases_Bool, le-leb, lt-leb}
 use Rattle.std.proofs.lemmas.Bool.Decides.{nat_tests}
@@ -15,7 +14,7 @@ use Rattle.multi_buffer.specs.Places.{source_place, to_source, width}
 use Rattle.multi_buffer.specs.Following.{state_of}
 use Rattle.multi_buffer.specs.Found.{IsAtOffset}
 use Rattle.multi_buffer.specs.Lengths.{offset_after}
-use Rattle.multi_buffer.specs.Splits.{meets, part_at, part_in, sharing}
+use Rattle.multi_buffer.specs.Splits.{part_at, part_in}
 use Rattle.multi_buffer.specs.Groups.{part_here}
 use Rattle.multi_buffer.proofs.Boundaries.{boundary_within}
 use Rattle.multi_buffer.proofs.Lines.{shown_count}
@@ -89,21 +88,3 @@ position_is [] ss a n o = absurd (n refl)
 position_is (x ∷ xs) ss a n o =
     some_if (is_boundary (multi_text (state_of (x ∷ xs) ss)) o) (source_place 0 (x ∷ xs) o)
     (λ t. (let w = boundary_within (multi_text (state_of (x ∷ xs) ss)) o t in let c = shown_count ss x xs a in place_there 0 (x ∷ xs) o (omega arith)))
-
--- ---- sharing
-
-pub sharing_here : (i : ℕ) (q : Part) (xs : List Excerpt) (x : Excerpt) → slice_get xs i ≡ Some x → meets i q x ≡ true → sharing i q (drop i xs) ≡ Some i
-sharing_here i q xs x e f = go i i xs e f
-  where
-    go : (j i : ℕ) (xs : List Excerpt) → slice_get xs i ≡ Some x → meets j q x ≡ true → sharing j q (drop i xs) ≡ Some j
-    go j i [] e f = cc
-    go j zero (y ∷ xs) e f = let g : y ≡ x = cc in let h : meets j q y ≡ true = ap (meets j q) g ∙ f in rw h refl
-    go j (suc i) (y ∷ xs) e f = go j i xs e f
-
-pub sharing_next : (i : ℕ) (q : Part) (xs : List Excerpt) (x : Excerpt) → slice_get xs i ≡ Some x → meets i q x ≡ false → sharing i q (drop i xs) ≡ sharing (i + 1) q (drop (i + 1) xs)
-sharing_next i q xs x e f = let z : suc i ≡ i + 1 = omega arith in subst (λ (n : ℕ). sharing i q (drop i xs) ≡ sharing n q (drop n xs)) z (go i i xs e f)
-  where
-    go : (j i : ℕ) (xs : List Excerpt) → slice_get xs i ≡ Some x → meets j q x ≡ false → sharing j q (drop i xs) ≡ sharing (suc j) q (drop (suc i) xs)
-    go j i [] e f = cc
-    go j zero (y ∷ xs) e f = let g : y ≡ x = cc in let h : meets j q y ≡ false = ap (meets j q) g ∙ f in rw h refl
-    go j (suc i) (y ∷ xs) e f = go j i xs e f

@@ -11,3 +11,5 @@ pub mod Here
 pub mod Splits
 pub mod Groups
 pub mod Edits
+pub mod Members
+pub mod MemberLaws

@@ -1,5 +1,5 @@
 -- What contracts see of a multibuffer: excerpts of buffers, and what each buffer was when it was synced last.
-use Rattle.std.specs.Prelude.{◌≡◌, ℕ, suc, ◌-◌, ◌≤◌, ◌^◌, ◌==◌, Bool, true, if◌then◌else◌, nat_lt, List, [], ◌∷◌, ◌++◌, length, map, slice_range, Option, Some, None}
+use Rattle.std.specs.Prelude.{◌≡◌, ℕ, suc, ◌-◌, ◌≤◌, ◌^◌, ◌==◌, Bool, true, if◌then◌else◌, nat_le, nat_lt, List, [], ◌∷◌, ◌++◌, length, map, slice_range, Option, Some, None}
 use Rattle.std.specs.List.{AllByRecursion, find}
 use Rattle.op_model.specs.Histories.{History}
 use Rattle.op_model.specs.Edits.{is_boundary}
@@ -59,6 +59,10 @@ lines (t ∷ u ∷ ts) = t ++ 10 ∷ lines (u ∷ ts)
 -- the text of all excerpts
 abbrev pub multi_text : MultiState → List ℕ
 multi_text m = lines (map (excerpt_text m.synced) m.excerpts)
+
+-- the same, if it has no more bytes than a rope may have
+abbrev pub rope_text : MultiState → Option (List ℕ)
+rope_text m = if nat_le (length (multi_text m)) (2 ^ 40) then Some (multi_text m) else None
 
 -- ---- what is true of every multibuffer
 

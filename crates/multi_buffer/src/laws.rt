@@ -1,5 +1,5 @@
 //! Laws of what multibuffers answer, shown by functions that do nothing.
-ghost use Rattle.multi_buffer.specs.Laws.{EditsReplace, PlacesComeBack};
+ghost use Rattle.multi_buffer.specs.Laws.{EditsReplace, PlacesComeBack, ShownEndsStay};
 
 use crate::MultiBuffer;
 
@@ -17,3 +17,9 @@ pub fn edits_replace(multi: &MultiBuffer)
 {
     multi.known();
 }
+
+/// Ends that stay: where a buffer's later snapshot shows the byte that an end of an excerpt keeps to, the anchor that is
+/// made again there is the same.
+pub fn ends_stay()
+    ensures { ShownEndsStay }
+{}

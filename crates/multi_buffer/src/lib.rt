@@ -21,10 +21,12 @@ mod grouping;
 mod laws;
 mod lengths;
 mod making;
+mod members;
 mod multi;
 mod parts;
 mod places;
 mod pushing;
+mod reach;
 mod rope_text;
 mod source;
 mod splitting;
@@ -33,7 +35,7 @@ mod texts;
 
 pub use excerpt::Excerpt;
 pub use faults::{PushFault, SplitFault};
-pub use laws::{edits_replace, places_come_back};
+pub use laws::{edits_replace, ends_stay, places_come_back};
 pub use lengths::Lengths;
 pub use multi::MultiBuffer;
 pub use op_model::OutOfMemory;
@@ -47,8 +49,12 @@ fn sends<T: Send>(_value: &T) {}
 
 fn shares<T: Sync>(_value: &T) {}
 
-/// Multibuffers may be sent to threads and be shared by them.
-pub fn crosses_threads(multi: &MultiBuffer) {
+/// Multibuffers, the pieces of a split and places may be sent to threads and be shared by them.
+pub fn crosses_threads(multi: &MultiBuffer, pieces: &BufferPieces, place: &Place) {
     sends(multi);
     shares(multi);
+    sends(pieces);
+    shares(pieces);
+    sends(place);
+    shares(place);
 }

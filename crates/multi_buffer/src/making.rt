@@ -1,16 +1,14 @@
 //! Excerpts that are made, and those that follow a later snapshot.
-ghost use Rattle.std.specs.Prelude.{◌≡◌, None, Some, true, map, IfOk};
+ghost use Rattle.std.specs.Prelude.{◌≡◌, None, Some, true, false};
 ghost use Rattle.op_model.specs.Anchors.{is_known, place, place_fault};
 ghost use Rattle.op_model.specs.Edits.{is_boundary};
 ghost use Rattle.anchors.specs.Making.{made_anchor};
-ghost use Rattle.multi_buffer.specs.Calls.{excerpt_of, followed, followed_in};
-ghost use Rattle.multi_buffer.specs.Following.{AllMayFollow, MayFollow, MayFollowIn};
+ghost use Rattle.multi_buffer.specs.Calls.{excerpt_of, followed};
+ghost use Rattle.multi_buffer.specs.Following.{MayFollow};
 
-use crate::excerpts::Excerpts;
-use crate::{Excerpt, OutOfMemory, Snapshot};
+use crate::{Excerpt, Snapshot};
 use op_model::{Anchor, Bias};
 use rope_chunks::Rope;
-use std::alloc::Global;
 
 /// Whether a character begins at a place of a text, or the text ends there. One descent; does not allocate.
 pub(crate) fn is_boundary(text: &Rope, offset: u64) -> bool
@@ -56,8 +54,26 @@ pub(crate) fn excerpt_of(buffer: u32, snapshot: &Snapshot, start: u64, end: u64)
     }
 }
 
-// An excerpt between the places of its anchors in a later snapshot.
-fn follow(snapshot: &Snapshot, excerpt: &Excerpt) -> Excerpt
+// Whether two anchors are the same.
+fn is_same(a: &Anchor, b: &Anchor) -> bool
+    ensures { result ≡ true → a.now ≡ b.now }
+{
+    a == b
+}
+
+/// Whether two excerpts are not the same.
+pub(crate) fn differs(a: &Excerpt, b: &Excerpt) -> bool
+    ensures { result ≡ false → a.now ≡ b.now }
+{
+    a.buffer != b.buffer
+        || a.start != b.start
+        || a.end != b.end
+        || !is_same(&a.left, &b.left)
+        || !is_same(&a.right, &b.right)
+}
+
+/// An excerpt between the places of its anchors in a later snapshot. A few descents; does not allocate.
+pub(crate) fn follow(snapshot: &Snapshot, excerpt: &Excerpt) -> Excerpt
     requires { MayFollow snapshot.now excerpt.now }
     ensures { result ≡ followed snapshot.now excerpt.now }
 {
@@ -65,39 +81,4 @@ fn follow(snapshot: &Snapshot, excerpt: &Excerpt) -> Excerpt
     let start = place(snapshot, &excerpt.left);
     let end = place(snapshot, &excerpt.right);
     excerpt_of(excerpt.buffer, snapshot, start, end)
-}
-
-// The same if it is one of a buffer, and otherwise the excerpt as it is.
-fn follow_in(buffer: u32, snapshot: &Snapshot, excerpt: &Excerpt) -> Excerpt
-    requires { MayFollowIn buffer snapshot.now excerpt.now }
-    ensures { result ≡ followed_in buffer snapshot.now excerpt.now }
-{
-    if excerpt.buffer == buffer {
-        follow(snapshot, excerpt)
-    } else {
-        *excerpt
-    }
-}
-
-/// All excerpts, those of a buffer between the places of their anchors in a later snapshot. Linear in the number of
-/// excerpts, with a few descents for each of the buffer's. Fails only if an allocation fails.
-pub(crate) fn follow_all(
-    alloc: Global,
-    buffer: u32,
-    snapshot: &Snapshot,
-    excerpts: &Excerpts,
-) -> Result<Excerpts, OutOfMemory>
-    requires { AllMayFollow buffer snapshot.now excerpts.now }
-    ensures { IfOk result (λ made. made ≡ map (followed_in buffer snapshot.now) excerpts.now) }
-{
-    snapshot.known();
-    excerpts.known();
-    let mut list = Vec::with_capacity(alloc, excerpts.len() as usize)?;
-    for index in 0..excerpts.len() {
-        let Some(excerpt) = excerpts.get(index) else {
-            unreachable!()
-        };
-        list.push(follow_in(buffer, snapshot, excerpt))?;
-    }
-    Excerpts::from_list(alloc, list)
 }

@@ -38,7 +38,7 @@ fn breaks(excerpts: u64) -> u64
 }
 
 impl MultiBuffer {
-    /// A multibuffer without excerpts. Makes one node.
+    /// A multibuffer without excerpts. Makes two nodes.
     ///
     /// # Errors
     ///

@@ -1,7 +1,7 @@
 //! Where the changes of the text of all excerpts go in the texts of their buffers.
 ghost use Rattle.std.specs.Prelude.{◌≡◌, ◌+◌, ◌≤◌};
 ghost use Rattle.op_model.specs.Edits.{is_boundary};
-ghost use Rattle.multi_buffer.specs.Splits.{meets, part_in, sharing};
+ghost use Rattle.multi_buffer.specs.Splits.{part_in, sharing};
 ghost use Rattle.multi_buffer.specs.Groups.{part_here};
 ghost use Rattle.multi_buffer.specs.Here.{IsHere};
 ghost use Rattle.multi_buffer.specs.Lengths.{offset_after};
@@ -26,16 +26,6 @@ pub struct BufferPieces {
     pub buffer: u32,
     /// The pieces in the order of their starts, in bytes.
     pub pieces: Pieces,
-}
-
-// Whether another excerpt than the part's is one of its buffer, and has a place in common with the part.
-fn meets(index: u32, part: Part, excerpt: &Excerpt) -> bool
-    ensures { result ≡ meets index part excerpt.now }
-{
-    index != part.excerpt
-        && excerpt.buffer == part.buffer
-        && part.start <= excerpt.end
-        && excerpt.start <= part.end
 }
 
 // The range `start..end` of the text of all excerpts in the text of the excerpt that has its start, after what lies
@@ -82,20 +72,11 @@ impl MultiBuffer {
         self.to_source(offset).is_some()
     }
 
-    // The least other excerpt of the part's buffer that has a place in common with the part. Linear in the number of
-    // excerpts.
+    // The least other excerpt of the part's buffer that has a place in common with the part. A descent for each that
+    // has.
     pub(crate) fn sharing(&self, part: Part) -> Option<u32>
         ensures { result ≡ sharing 0 part self.now.excerpts }
     {
-        self.excerpts.known();
-        for index in 0..self.excerpts.len() {
-            let Some(excerpt) = self.excerpts.get(index) else {
-                unreachable!()
-            };
-            if meets(index as u32, part, excerpt) {
-                return Some(index as u32);
-            }
-        }
-        None
+        self.excerpts.sharing(part)
     }
 }

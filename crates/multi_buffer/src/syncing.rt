@@ -4,7 +4,6 @@ ghost use Rattle.multi_buffer.specs.Calls.{after_sync, followed_in, IsWithin};
 ghost use Rattle.multi_buffer.specs.State.{history_of};
 
 use crate::excerpts::Excerpts;
-use crate::making::follow_all;
 use crate::source::{put, source_of};
 use crate::{MultiBuffer, OutOfMemory, Snapshot, Source};
 use lamport_clock::Version;
@@ -56,7 +55,7 @@ impl MultiBuffer {
     {
         snap.known();
         if self.may_change(buffer, snap) {
-            follow_all(self.alloc, buffer, snap, &self.excerpts)
+            self.excerpts.follow(self.alloc, buffer, snap)
         } else {
             self.excerpts.share()
         }

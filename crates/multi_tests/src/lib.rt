@@ -2,7 +2,7 @@
 #![tactic(auto)]
 
 #[cfg(test)]
-mod desk;
+mod limits;
 #[cfg(test)]
 mod random;
 #[cfg(test)]

@@ -1,7 +1,7 @@
 //! Calls in which an allocation fails: the excerpts stay as they were, and the call is made again.
 //!
 //! Where none fails, each call is made once. `bench/refused_calls.sh` refuses each allocation in turn.
-use crate::desk::{Change, Desk, pieces};
+use excerpt_desk::{Change, Desk, pieces};
 use multi_buffer::{MultiBuffer, OutOfMemory, PushFault, SplitFault};
 use op_model::Piece;
 use text_buffer::{Buffer, Limits};
@@ -24,6 +24,17 @@ fn text_again(multi: &MultiBuffer) -> bool {
     }
 }
 
+fn rope_again(multi: &MultiBuffer) -> bool {
+    match multi.rope() {
+        Ok(rope) => rope.is_some_and(|rope| rope.len() == 2),
+        Err(OutOfMemory) => multi.rope().is_ok(),
+    }
+}
+
+fn sync_again(desk: &mut Desk) -> bool {
+    desk.sync(0) || (desk.multi().len() == 2 && desk.sync(0))
+}
+
 fn split_again(multi: &MultiBuffer, changes: &[Piece]) -> bool {
     match multi.split(changes) {
         Ok(groups) => groups.len() == 1,
@@ -39,6 +50,8 @@ fn calls_are_made_again(rt: HostRuntime) {
     desk.open(buffer).expect(&rt, "memory");
     let changes = pieces(rt.alloc(), CHANGES).expect(&rt, "memory");
     assert!(rt; excerpt_again(&mut desk));
+    assert!(rt; sync_again(&mut desk));
     assert!(rt; text_again(desk.multi()));
+    assert!(rt; rope_again(desk.multi()));
     assert!(rt; split_again(desk.multi(), changes.as_slice()));
 }

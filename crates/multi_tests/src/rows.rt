@@ -24,6 +24,21 @@ const ROWS: &[Row] = &[
         ],
     },
     Row {
+        name: "three excerpts of two buffers",
+        steps: &[
+            Step::Page("abc\ndef"),
+            Step::Page("abc\ndef"),
+            Step::Excerpt(0, 0, 2, 0),
+            Step::Excerpt(1, 4, 7, 1),
+            Step::Excerpt(0, 5, 7, 2),
+            Step::Text("ab\ndef\nef"),
+            Step::Changes(&[(2, 2, "X"), (3, 4, ""), (9, 9, "Y")], 2),
+            Step::Text("abX\nef\nefY"),
+            Step::PageText(0, "abXc\ndefY"),
+            Step::PageText(1, "abc\nef"),
+        ],
+    },
+    Row {
         name: "excerpts that touch",
         steps: &[
             Step::Page("abc"),

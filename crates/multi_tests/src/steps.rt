@@ -1,5 +1,5 @@
 //! Steps of an editor, each with its result.
-use crate::desk::{Change, Desk, pieces};
+use excerpt_desk::{Change, Desk, pieces};
 use lamport_clock::Lamport;
 use multi_buffer::{Place, PushFault, SplitFault};
 use std::alloc::Global;

@@ -1,8 +1,9 @@
-use Rattle.std.proofs.Common.{List, subst, sym}
-use Rattle.multi_buffer.specs.Found.{AreShort}
-use Rattle.multi_buffer.specs.declared.excerpt.Excerpt.{Excerpt}
-use Rattle.multi_buffer.proofs.Sums.{AreShort-none}
+use Rattle.std.proofs.Common.{refl}
+use Rattle.multi_buffer.proofs.Indexed.{AreExcerpts-none}
 use Rattle.multi_buffer.proofs.excerpts.Excerpts.new.Goals as goal
 
 pub invariant_of-result : goal.invariant_of-result
-invariant_of-result c = subst (λ (xs : List Excerpt). AreShort xs) (sym c.in_ok-tree.ensures.items) AreShort-none
+invariant_of-result c = AreExcerpts-none c.in_ok-tree.tree.items c.in_ok-members.members.items c.in_ok-tree.ensures.items c.in_ok-members.ensures.items
+
+pub same-tree : goal.same-tree
+same-tree c = refl

@@ -1,5 +1,0 @@
-use Rattle.multi_tests.proofs.Following.{edited}
-use Rattle.multi_tests.proofs.desk.edit.Goals as goal
-
-pub returns : goal.returns
-returns c = edited c.edit_uncounted.result c.args.buffer.now c.edit_uncounted.new.self c.edit_uncounted.ensures.history c.edit_uncounted.ensures.err

@@ -1,5 +1,0 @@
-use Rattle.multi_tests.proofs.Following.{edited}
-use Rattle.multi_tests.proofs.desk.undo.Goals as goal
-
-pub returns : goal.returns
-returns c = edited c.undo.result c.args.buffer.now c.undo.new.self c.undo.ensures.history c.undo.ensures.err
