@@ -24,9 +24,11 @@ pub use fault::{DecodeFault, LineFault, Word};
 pub use kept::KeptLine;
 pub use lamport_clock::OutOfMemory;
 pub use line_list::{LineQueue, SessionLines};
+pub use line_value::{is_text, members_of, value_of};
+pub use parts::{id_of_value, pieces_of_value};
 pub use report::{
     AnchorAnswer, FindAnswer, GiveAnswer, OffsetAnswer, PointAnswer, QueryAnswer, Report,
     SinceAnswer, TextEdits, TextHead, WhereAnswer,
 };
 pub use session::{Ids, Numbers, Session, SessionLine};
-pub use text::{write_line, write_text};
+pub use text::{edit_fault_words, write_line, write_text};

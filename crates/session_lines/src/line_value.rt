@@ -9,7 +9,11 @@ use crate::fault::{LineFault, Word};
 use serde_json::Value;
 use std::alloc::Global;
 
-/// The value that a line is.
+/// The value that a line is. Linear in the line. Allocates for the value.
+///
+/// # Errors
+///
+/// `Bad` with `Json` if the line is no value; `OutOfMemory` if an allocation fails.
 #[tactic(auto, unfolding(crate::specs::Json::value_of))]
 pub fn value_of(alloc: Global, line: &[u8]) -> Result<Value, LineFault>
     ensures ok { IfOk result (λ v. value_of line.now ≡ Some (view v)) }

@@ -13,7 +13,7 @@ use op_model::{Bias, Counts, Piece, Pieces, Text, UndoCount};
 use serde_json::Value;
 use std::alloc::Global;
 
-/// The id of a replica, of the header or not.
+/// The id of a replica, of the header or not, or None if the value is not one. O(1); does not allocate.
 pub fn id_of_value(value: &Value) -> Option<u16>
     ensures { result ≡ id_of_value (view value.now) }
 {

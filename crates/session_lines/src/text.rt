@@ -110,7 +110,12 @@ fn push_made(out: &mut String, n: u64, stamp: Lamport) -> Result<(), OutOfMemory
     write!(out, "{n}: {value}.{replica}\n")
 }
 
-fn edit_fault_words(alloc: Global, fault: EditFault) -> Result<String, OutOfMemory>
+/// The words of an edit's fault. O(1).
+///
+/// # Errors
+///
+/// `OutOfMemory` if an allocation fails.
+pub fn edit_fault_words(alloc: Global, fault: EditFault) -> Result<String, OutOfMemory>
     ensures { IfOk result (λ s. string_bytes s ≡ edit_fault_words fault) }
 {
     match fault {

@@ -11,7 +11,7 @@ use Rattle.session_more.specs.Decoding.{headed, more_lines_read, more_session_of
 use Rattle.session_more.specs.Lines.{more_taken_in}
 use Rattle.session_more.specs.State.{MoreState, first_state}
 use Rattle.session_more.specs.declared.session.MoreLine.{MoreLine}
-use Rattle.session_more.specs.declared.session.MoreLine.TheVariants.{Plain, Select, Share, Selected}
+use Rattle.session_more.specs.declared.session.MoreLine.TheVariants.{Plain, Select, Share, Selected, Fold, Unfold, Folded, Display, Excerpt, Multi, Medit}
 use Rattle.session_more.specs.declared.session.MoreSession.{MoreSession}
 
 longer : (n m : ℕ) (s : Session) → n ≤ m → IsSession n s → IsSession m s
@@ -43,3 +43,10 @@ header_stays (Plain l) s = (refl, refl)
 header_stays (Select r n ps) s = (refl, refl)
 header_stays (Share r n) s = (refl, refl)
 header_stays (Selected r a) s = (refl, refl)
+header_stays (Fold r b e) s = (refl, refl)
+header_stays (Unfold r b e) s = (refl, refl)
+header_stays (Folded r) s = (refl, refl)
+header_stays (Display r o) s = (refl, refl)
+header_stays (Excerpt n r b e) s = (refl, refl)
+header_stays (Multi n) s = (refl, refl)
+header_stays (Medit n ps) s = (refl, refl)

@@ -17,6 +17,8 @@ pub struct MoreBefore {
     pub plain: Before,
     /// The names under which selections are kept.
     selects: BTreeSet<String>,
+    /// The names under which there are excerpts.
+    excerpts: BTreeSet<String>,
 }
 
 impl Model for MoreBefore {
@@ -25,7 +27,11 @@ impl Model for MoreBefore {
 
     ghost Value = { MoreState };
 
-    ghost view = { λ b. record { plain = b.plain; selects = names_of b.selects } };
+    ghost view = { λ b. record {
+      plain = b.plain;
+      selects = names_of b.selects;
+      excerpts = names_of b.excerpts;
+    } };
 }
 
 // Whether the name is one of the names.
@@ -52,10 +58,12 @@ impl MoreBefore {
         MoreBefore {
             plain,
             selects: BTreeSet::new(alloc),
+            excerpts: BTreeSet::new(alloc),
         }
     }
 
-    /// Whether the replica that acts in a line of a further form is in the header. Linear in the ids; does not allocate.
+    /// Whether the replica that acts in a line of a further form is in the header. Linear in the ids; does not
+    /// allocate.
     pub fn is_known(&self, line: &MoreLine) -> bool
         requires { IsFurther line.now }
         ensures { result ≡ is_known self.now.plain.replicas line.now }
@@ -64,18 +72,27 @@ impl MoreBefore {
             MoreLine::Plain(_) => unreachable!(),
             MoreLine::Select { replica, .. }
             | MoreLine::Share { replica, .. }
-            | MoreLine::Selected { replica, .. } => self.plain.replicas().contains(replica),
+            | MoreLine::Selected { replica, .. }
+            | MoreLine::Fold { replica, .. }
+            | MoreLine::Unfold { replica, .. }
+            | MoreLine::Folded { replica }
+            | MoreLine::Display { replica, .. }
+            | MoreLine::Excerpt { replica, .. } => self.plain.replicas().contains(replica),
+            MoreLine::Multi { .. } | MoreLine::Medit { .. } => true,
         }
     }
 
-    /// Whether what a line of a further form asks for by a name, if it does, is kept. Logarithmic in the number of names;
-    /// does not allocate.
+    /// Whether what a line of a further form asks for by a name, if it does, is kept. Logarithmic in the number of
+    /// names; does not allocate.
     pub fn is_named(&self, line: &MoreLine) -> bool
         requires { IsFurther line.now }
         ensures { result ≡ is_named self.now line.now }
     {
         match line {
             MoreLine::Share { name, .. } => has_name(&self.selects, name.as_str()),
+            MoreLine::Multi { name } | MoreLine::Medit { name, .. } => {
+                has_name(&self.excerpts, name.as_str())
+            }
             _ => true,
         }
     }
@@ -92,8 +109,14 @@ impl MoreBefore {
         ensures err { OnErr result (self.new ≡ self.old) }
     {
         match line {
-            MoreLine::Select { name, .. } => add_name(alloc, &mut self.selects, name.as_str()),
-            _ => Ok(()),
+            MoreLine::Select { name, .. } => add_name(alloc, &mut self.selects, name.as_str())?,
+            MoreLine::Excerpt { name, .. } => add_name(alloc, &mut self.excerpts, name.as_str())?,
+            MoreLine::Medit { .. } => {
+                let count = self.plain.replicas().len() as u64;
+                self.plain.raise_operations(count);
+            }
+            _ => {}
         }
+        Ok(())
     }
 }

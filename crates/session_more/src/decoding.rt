@@ -12,9 +12,10 @@ use crate::before::MoreBefore;
 use crate::forms::further_of_value;
 use crate::kept::KeptMore;
 use crate::line_list::MoreLines;
-use crate::line_value::value_of;
 use crate::session::{MoreLine, MoreSession};
-use session_lines::{DecodeFault, LineFault, Word, first_line, line_count, read_header, read_line};
+use session_lines::{
+    DecodeFault, LineFault, Word, first_line, line_count, read_header, read_line, value_of,
+};
 use std::alloc::Global;
 
 /// The most lines of a session, `lines_limit` of contracts.
@@ -68,12 +69,14 @@ fn read_further(alloc: Global, line: &[u8], before: &mut MoreBefore) -> Result<M
     Ok(line)
 }
 
-// The line that a text is, which is then taken into `before`. Only a text without a form of `session_lines` is read again.
+// The line that a text is, which is then taken into `before`. Only a text without a form of `session_lines` is read
+// again.
 #[tactic(auto, unfolding(crate::specs::Decoding::more_line_read))]
 fn read(alloc: Global, line: &[u8], before: &mut MoreBefore) -> Result<MoreLine, LineFault>
     ensures ok { IfOk result (λ l. more_line_read before.old line.now ≡ Ok l) }
     ensures taken { IfOk result (λ l. before.new ≡ more_taken_in l before.old) }
-    ensures bad { (w : Word) → result ≡ Err (LineFault.Bad w) → more_line_read before.old line.now ≡ Err w }
+    ensures bad { (w : Word) → result ≡ Err (LineFault.Bad w)
+        → more_line_read before.old line.now ≡ Err w }
     ensures err { OnErr result (before.new ≡ before.old) }
 {
     match read_line(alloc, line, &mut before.plain) {
@@ -137,15 +140,15 @@ fn session_of(alloc: Global, migrate: bool, input: &[u8]) -> Result<MoreSession,
     }
 }
 
-/// The session that the bytes are. Linear in their number; the session takes as much memory as the texts in it, and each
-/// line is read for itself. Where `migrate` is true the session is read to be written as one of version 2: if it has version 1, no
-/// text that it brings into buffers may have a CR.
+/// The session that the bytes are. Linear in their number; the session takes as much memory as the texts in it, and
+/// each line is read for itself. Where `migrate` is true the session is read to be written as one of version 2: if it
+/// has version 1, no text that it brings into buffers may have a CR.
 ///
 /// # Errors
 ///
-/// `Lines` exactly where there are more than 1,048,576 lines, with their number. Else `Bad` for the first bad line and the
-/// first word that applies to it, `Cr` only where `migrate` is true; an input without a line is bad at line 1 with the word
-/// `header`. `OutOfMemory` only where there is a line, and not too many.
+/// `Lines` exactly where there are more than 1,048,576 lines, with their number. Else `Bad` for the first bad line
+/// and the first word that applies to it, `Cr` only where `migrate` is true; an input without a line is bad at line 1
+/// with the word `header`. `OutOfMemory` only where there is a line, and not too many.
 #[tactic(auto, unfolding(crate::specs::Decoding::more_session_of_text), using(crate::proofs::Headers::is_session, crate::proofs::Plain::session_of_nothing))]
 pub fn decode(alloc: Global, input: &[u8], migrate: bool) -> Result<MoreSession, DecodeFault>
     ensures ok { IfOk result (λ s. more_session_of_text migrate input.now ≡ Ok s) }

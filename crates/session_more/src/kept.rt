@@ -1,7 +1,7 @@
 //! A line as a session keeps it until it is worked.
 ghost use Rattle.std.specs.Prelude.{◌≡◌, IfOk, IfSome};
 ghost use Rattle.session_more.specs.Kept.{line_of};
-ghost use Rattle.session_more.specs.Lines.{is_operation, is_query};
+ghost use Rattle.session_more.specs.Lines.{is_query, number_count};
 ghost use Rattle.session_more.specs.declared.kept.Form.{Form};
 ghost use Rattle.session_more.specs.declared.session.MoreLine.{MoreLine};
 
@@ -13,8 +13,9 @@ use std::alloc::Global;
 use std::marker::Model;
 use std::mem::size_of;
 
-/// A line in a form of 56 bytes, seen as the line. A line of `session_lines` takes more as it does in a `KeptLine`; of the others
-/// only one with a name of more than 16 bytes, or with no or several ranges, takes more, in a block of its own.
+/// A line in a form of 56 bytes, seen as the line. A line of `session_lines` takes more as it does in a `KeptLine`;
+/// of the others only an edit of excerpts, and one with a name of more than 16 bytes or with no or several ranges,
+/// takes more, in a block of its own.
 #[derive(Drop)]
 pub struct KeptMore {
     form: Form,
@@ -40,6 +41,12 @@ pub enum Form {
     Select(u16, ArrayString<16>, u64, u64),
     Share(u16, ArrayString<16>),
     Selected(u16, u16),
+    Fold(u16, u64, u64),
+    Unfold(u16, u64, u64),
+    Folded(u16),
+    Display(u16, u64),
+    Excerpt(ArrayString<16>, u16, u64, u64),
+    Multi(ArrayString<16>),
     /// Any line, as it is.
     Whole(Box<MoreLine>),
 }
@@ -74,6 +81,26 @@ fn short_form(line: &MoreLine) -> Option<Form>
         } => short_select(*replica, name, ranges.as_slice()),
         MoreLine::Share { replica, name } => Some(Form::Share(*replica, short(name)?)),
         MoreLine::Selected { replica, author } => Some(Form::Selected(*replica, *author)),
+        MoreLine::Fold {
+            replica,
+            start,
+            end,
+        } => Some(Form::Fold(*replica, *start, *end)),
+        MoreLine::Unfold {
+            replica,
+            start,
+            end,
+        } => Some(Form::Unfold(*replica, *start, *end)),
+        MoreLine::Folded { replica } => Some(Form::Folded(*replica)),
+        MoreLine::Display { replica, offset } => Some(Form::Display(*replica, *offset)),
+        MoreLine::Excerpt {
+            name,
+            replica,
+            start,
+            end,
+        } => Some(Form::Excerpt(short(name)?, *replica, *start, *end)),
+        MoreLine::Multi { name } => Some(Form::Multi(short(name)?)),
+        MoreLine::Medit { .. } => None,
     }
 }
 
@@ -121,14 +148,14 @@ impl KeptMore {
         Ok(KeptMore { form })
     }
 
-    /// Whether it is an operation line.
-    pub fn is_operation(&self) -> bool
-        ensures { result ≡ is_operation self.now }
+    /// How many numbers of operation lines it takes in a session of this many replicas.
+    pub fn number_count(&self, replicas: u64) -> u64
+        ensures { result ≡ number_count replicas self.now }
     {
         match &self.form {
-            Form::Plain(line) => line.is_operation(),
-            Form::Whole(line) => line.is_operation(),
-            _ => false,
+            Form::Plain(line) => line.is_operation() as u64,
+            Form::Whole(line) => line.number_count(replicas),
+            _ => 0,
         }
     }
 
@@ -162,6 +189,27 @@ impl KeptMore {
                 name: text_of(alloc, &name)?,
             }),
             Form::Selected(replica, author) => Ok(MoreLine::Selected { replica, author }),
+            Form::Fold(replica, start, end) => Ok(MoreLine::Fold {
+                replica,
+                start,
+                end,
+            }),
+            Form::Unfold(replica, start, end) => Ok(MoreLine::Unfold {
+                replica,
+                start,
+                end,
+            }),
+            Form::Folded(replica) => Ok(MoreLine::Folded { replica }),
+            Form::Display(replica, offset) => Ok(MoreLine::Display { replica, offset }),
+            Form::Excerpt(name, replica, start, end) => Ok(MoreLine::Excerpt {
+                name: text_of(alloc, &name)?,
+                replica,
+                start,
+                end,
+            }),
+            Form::Multi(name) => Ok(MoreLine::Multi {
+                name: text_of(alloc, &name)?,
+            }),
             Form::Whole(line) => Ok(Box::into_inner(line)),
         }
     }

@@ -40,14 +40,15 @@ impl MoreLines {
         self.inner.len() as u64
     }
 
-    /// How many of them are operation lines. Linear in the lines; does not allocate.
-    pub fn operation_count(&self) -> u64
-        ensures { result ≡ operation_count self.now }
+    /// How many numbers of operation lines they take in a session of this many replicas, up to 2^64 - 1. Linear in
+    /// the lines; does not allocate.
+    pub fn operation_count(&self, replicas: u64) -> u64
+        ensures { result ≡ operation_count replicas self.now }
     {
         let lines = self.inner.as_slice();
-        let mut count = 0;
+        let mut count = 0_u64;
         for line in lines {
-            count += line.is_operation() as u64;
+            count = count.saturating_add(line.number_count(replicas));
         }
         count
     }
@@ -99,8 +100,8 @@ impl MoreQueue {
         self.inner.len() as u64
     }
 
-    /// The first line, if there is one, and the lines after it. O(1) amortized. Allocates for the texts and lists of the line. The
-    /// room of the lines is halved once half of it is empty, if that smaller block can be allocated.
+    /// The first line, if there is one, and the lines after it. O(1) amortized. Allocates for the texts and lists of
+    /// the line. The room of the lines is halved once half of it is empty, if that smaller block can be allocated.
     ///
     /// # Errors
     ///

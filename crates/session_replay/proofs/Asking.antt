@@ -129,6 +129,13 @@ few_more q (more.Plain l) s = few_at q l s.plain
 few_more q (more.Select r name rs) s = none_asked
 few_more q (more.Share r name) s = none_asked
 few_more q (more.Selected r a) s = none_asked
+few_more q (more.Fold r start end) s = none_asked
+few_more q (more.Unfold r start end) s = none_asked
+few_more q (more.Folded r) s = none_asked
+few_more q (more.Display r o) s = none_asked
+few_more q (more.Excerpt name r start end) s = none_asked
+few_more q (more.Multi name) s = none_asked
+few_more q (more.Medit name ps) s = none_asked
 
 -- a line that asks is a query
 is_asked : (l : SessionLine) (a : ℕ × Question) → Some a ≡ question_of l → old.is_query l ≡ true
@@ -152,6 +159,13 @@ more_asked (more.Plain l) a e = is_asked l a e
 more_asked (more.Select r name rs) a e = absurd (cc e)
 more_asked (more.Share r name) a e = absurd (cc e)
 more_asked (more.Selected r b) a e = absurd (cc e)
+more_asked (more.Fold r start end) a e = absurd (cc e)
+more_asked (more.Unfold r start end) a e = absurd (cc e)
+more_asked (more.Folded r) a e = absurd (cc e)
+more_asked (more.Display r o) a e = absurd (cc e)
+more_asked (more.Excerpt name r start end) a e = absurd (cc e)
+more_asked (more.Multi name) a e = absurd (cc e)
+more_asked (more.Medit name ps) a e = absurd (cc e)
 
 pub count_more : (l : MoreLine) (ls : List MoreLine) → query_count (l ∷ ls) ≡ cond (is_query l) 1 0 + query_count ls
 count_more l ls = sum_by-cons (λ (k : MoreLine). cond (is_query k) 1 0) l ls
@@ -255,6 +269,13 @@ more_asks_only (more.Plain l) a e s =
 more_asks_only (more.Select r name rs) a e s = absurd (cc e)
 more_asks_only (more.Share r name) a e s = absurd (cc e)
 more_asks_only (more.Selected r b) a e s = absurd (cc e)
+more_asks_only (more.Fold r start end) a e s = absurd (cc e)
+more_asks_only (more.Unfold r start end) a e s = absurd (cc e)
+more_asks_only (more.Folded r) a e s = absurd (cc e)
+more_asks_only (more.Display r o) a e s = absurd (cc e)
+more_asks_only (more.Excerpt name r start end) a e s = absurd (cc e)
+more_asks_only (more.Multi name) a e s = absurd (cc e)
+more_asks_only (more.Medit name ps) a e s = absurd (cc e)
 
 pub no_question : (q : ℕ) (l : MoreLine) (s : MoreState) → None ≡ more_question_of l → more_query_at q l s ≡ []
 no_question q l s e = ap (query_with q s.plain) (sym e)

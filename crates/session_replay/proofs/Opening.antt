@@ -1,16 +1,12 @@
 -- A session at its opening, and what an editor over it has once all is gathered.
-use Rattle.std.proofs.Common.{◌≡◌, ℕ, ◌≤◌, nat_le, List, [], ◌++◌, length, map, sym, ap, ◌∙◌, subst, arith}
+use Rattle.std.proofs.Common.{◌≡◌, ℕ, ◌≤◌, List, [], ◌++◌, length, map, sym, ap, ◌∙◌, subst, arith}
 use Rattle.std.specs.List.{All, AllZip, flat_map}
 use Rattle.std.proofs.lemmas.List.{length-map}
-use Rattle.std.proofs.lemmas.Bool.{and_parts}
-use Rattle.std.proofs.lemmas.Bool.Decides.{nat_tests}
 use Rattle.op_model.specs.declared.operation.Operation.{Operation}
 use Rattle.op_model.proofs.Elements.{zip_itself}
 use Rattle.text_buffer.proofs.Fronts.{front_itself}
 use Rattle.text_buffer.specs.Document.{IsFront}
-use Rattle.session_lines.specs.Heading.{most_replicas}
 use Rattle.session_lines.specs.Report.{report_text}
-use Rattle.session_lines.specs.Session.{IsSession}
 use Rattle.session_lines.specs.declared.report.QueryAnswer.{QueryAnswer}
 use Rattle.session_more.specs.Decoding.{headed}
 use Rattle.session_more.specs.Lines.{query_count}
@@ -25,8 +21,8 @@ use Rattle.query_dispatch.specs.States.{PublishersState}
 use Rattle.query_dispatch.proofs.Dealing.{tied_length}
 use Rattle.session_replay.specs.Replies.{IsReport, reply_line}
 use Rattle.session_work.specs.MoreQueries.{more_end_of, more_queries_from, more_queries_of, plain_end_of}
-use Rattle.session_work.specs.MoreWork.{MoreState, after_all_more, all_more_events, more_opening}
-use Rattle.session_work.specs.Work.{at_end, base_of, first_buffer, session_limit, histories}
+use Rattle.session_work.specs.MoreWork.{IsMoreSession, MoreState, after_all_more, all_more_events, more_opening}
+use Rattle.session_work.specs.Work.{at_end, base_of, first_buffer, histories}
 use Rattle.session_work.specs.Working.{more_state_of}
 use Rattle.session_work.specs.Queries.{plain_answer}
 use Rattle.session_replay.specs.Beside.{CanEdit, HasEdited, asks_among, line_of}
@@ -34,22 +30,24 @@ use Rattle.session_replay.specs.declared.beside.Editor.{Editor}
 use Rattle.session_replay.specs.declared.beside.Edited.{Edited}
 use Rattle.session_work.specs.declared.queries.Question.{Question}
 use Rattle.session_work.specs.Later.{AllGrow}
+use Rattle.session_work.proofs.Excerpting.{opening_room}
 use Rattle.session_work.proofs.Growth.{lines_grow}
 use Rattle.session_work.proofs.MoreReports.{three_parts}
+use Rattle.session_work.proofs.Read.{few_replicas}
 use Rattle.session_replay.proofs.Replies.{placed}
 use Rattle.session_replay.proofs.Gathered.{gathered, gathered_lines, past, replies_to}
 
 -- ---- at the opening
 
-few_replicas : (s : MoreSession) → IsSession session_limit (headed s) → length s.replicas ≤ most_replicas
-few_replicas s h = let few = (and_parts (nat_le 1 (length s.replicas)) (nat_le (length s.replicas) most_replicas) (and_parts _ _ h.replicas).0).1 in grind (arith, nat_tests)
+module _ (s : MoreSession) (h : IsMoreSession s) (o : Editor) (p : PublishersState) (begins : more_state_of o.progress ≡ more_opening s) where
+  start : o.progress.plain.exchange.buffers ≡ map (first_buffer (base_of (headed s))) s.replicas
+  start = ap (λ (u : MoreState). u.plain.buffers) begins
 
-module _ (s : MoreSession) (h : IsSession session_limit (headed s)) (o : Editor) (p : PublishersState) (start : o.progress.plain.exchange.buffers ≡ map (first_buffer (base_of (headed s))) s.replicas) where
   pub can_edit : (workers limit : ℕ) (ls : List MoreLine) → ls ≡ s.lines → o.workers ≡ workers → length o.dispatcher.inboxes ≡ workers → limit ≡ query_count s.lines
       → HasAsked o.dispatcher [] → o.dispatcher.limit ≡ limit → AreLevel p → AreTied o.dispatcher.inboxes p → published_lists p ≡ histories o.progress.plain.exchange.buffers → CanEdit ls o p
   can_edit workers limit ls l w n room asked most level tied published = record {
     asking = record {
-      few = omega (arith, few_replicas s h, ap (λ bs. length bs) start, length-map s.replicas (first_buffer (base_of (headed s))));
+      few = omega (arith, few_replicas s h.header, ap (λ bs. length bs) start, length-map s.replicas (first_buffer (base_of (headed s))));
       asked = asked;
       level = level;
       tied = tied;
@@ -57,6 +55,7 @@ module _ (s : MoreSession) (h : IsSession session_limit (headed s)) (o : Editor)
     };
     workers = w ∙ (sym n ∙ tied_length o.dispatcher.inboxes p tied);
     room = omega (arith, asked.count, most, room, ap query_count l);
+    few = opening_room s h ls l (more_state_of o.progress) begins;
   }
 
 -- ---- once the editor has left

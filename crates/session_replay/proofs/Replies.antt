@@ -1,4 +1,5 @@
--- The queries of a session that are answered on the spot: what they are answered on is the front of what is applied at the end.
+-- The queries of a session that are answered on the spot: what they are answered on is the front of what is applied at
+-- the end.
 use Rattle.std.proofs.Common.{◌≡◌, Bool, true, false, cond, Ok, ℕ, ◌+◌, ◌≤◌, List, [], ◌∷◌, ◌++◌, length, map, take, Option, None, Some, refl, sym, ap, ◌∙◌, subst, arith}
 use Rattle.std.specs.List.{All, AllPairs}
 use Rattle.std.proofs.Math.Seq.{take-append_seam}
@@ -226,6 +227,13 @@ no_more_query q (more.Plain l) s e = no_query_of q l s.plain e
 no_more_query q (more.Select r name rs) s e = refl
 no_more_query q (more.Share r name) s e = refl
 no_more_query q (more.Selected r a) s e = refl
+no_more_query q (more.Fold r start end) s e = refl
+no_more_query q (more.Unfold r start end) s e = refl
+no_more_query q (more.Folded r) s e = refl
+no_more_query q (more.Display r o) s e = refl
+no_more_query q (more.Excerpt name r start end) s e = refl
+no_more_query q (more.Multi name) s e = refl
+no_more_query q (more.Medit name ps) s e = refl
 
 none_first : (t : Bool) (n : ℕ) → cond t 1 0 + n ≡ 0 → (t ≡ false) × (n ≡ 0)
 none_first true n e = absurd (omega arith)

@@ -22,6 +22,7 @@ use Rattle.session_work.specs.MoreWork.{after_all_more, all_more_events}
 use Rattle.session_work.specs.Queries.{AskedQuery}
 use Rattle.session_work.specs.declared.queries.Question.{Question}
 use Rattle.session_work.specs.Work.{applied_count, histories}
+use Rattle.session_work.specs.Room.{HasRoom}
 use Rattle.session_work.specs.Working.{buffers_of, more_state_of}
 use Rattle.session_replay.specs.declared.beside.Editor.{Editor}
 use Rattle.session_replay.specs.declared.beside.Edited.{Edited}
@@ -51,8 +52,8 @@ pub record IsAsking (bs : List BufferState) (asks : List (Ask Question))
   pub tied : AreTied d.inboxes p
   pub fronts : AllZip IsFront (published_lists p) (histories bs)
 
--- an editor over bs asks more, and is over cs then: whatever it had asked, it has asked these queries too, the first of which has
--- the next number
+-- an editor over bs asks more, and is over cs then: whatever it had asked, it has asked these queries too, the first of
+-- which has the next number
 abbrev pub AsksMore : List BufferState → DispatcherState Question → PublishersState
     → (ℕ → List AskedQuery) → List BufferState → DispatcherState Question → PublishersState → Type 0
 AsksMore bs d p queries cs e q = (asks : List (Ask Question))
@@ -67,7 +68,8 @@ pub record KeepsEnds (d : DispatcherState Question) (p : PublishersState)
   pub pairs : pairs_in e.inboxes ≡ pairs_in d.inboxes
   pub limit : e.limit ≡ d.limit
 
--- an editor over these buffers that has asked this has left: its answers can be gathered from the other ends of the same queues
+-- an editor over these buffers that has asked this has left: its answers can be gathered from the other ends of the
+-- same queues
 pub record HasLeft (bs : List BufferState) (asks : List (Ask Question))
     (d : DispatcherState Question) (e : Edited) : Type 0 where
   pub published : List (List Operation)
@@ -78,11 +80,12 @@ pub record HasLeft (bs : List BufferState) (asks : List (Ask Question))
   pub queues : queues_of e.gathering.inboxes.items ≡ queues_of d.inboxes
   pub pairs : pairs_in e.gathering.inboxes.items ≡ pairs_in d.inboxes
 
--- an editor that has asked nothing yet, and has room for the queries of these lines
+-- an editor that has asked nothing yet, and has room for the queries and the excerpts of these lines
 pub record CanEdit (lines : List MoreLine) (o : Editor) (p : PublishersState) : Type 0 where
   pub asking : IsAsking (buffers_of o.progress) [] o.dispatcher p
   pub workers : o.workers ≡ p.workers
   pub room : o.dispatcher.count + query_count lines ≤ o.dispatcher.limit
+  pub few : HasRoom (length lines) (more_state_of o.progress)
 
 -- an editor that has worked these lines and asked their queries has left
 pub record HasEdited (lines : List MoreLine) (o : Editor) (e : Edited) : Type 0 where

@@ -31,7 +31,8 @@ abbrev pub PlainWithWorkers : Type 0
 PlainWithWorkers = (input : List ℕ) → (s : MoreSession) → (workers : ℕ)
     → more_session_of_text false input ≡ Ok s → Replays input (more_report_text (more_report_of s)) workers
 
--- a session of the lines of `session_lines` alone has the report that these lines have, whatever lines there are beside them
+-- a session of the lines of `session_lines` alone has the report that these lines have, whatever lines there are
+-- beside them
 abbrev pub OldReportsStay : Type 0
 OldReportsStay = (input output : List ℕ) → Replays input output 0
     → (s : Session) → session_of_text false input ≡ Ok s → output ≡ report_text (report_of s)

@@ -4,14 +4,15 @@ use Rattle.session_lines.specs.Cut.{lines_of}
 use Rattle.op_wire.specs.declared.fault.WireFault.{WireFault}
 use Rattle.record_lines.specs.Unpacking.{lines_of_stream}
 use Rattle.record_lines.specs.Words.{fault_line, long_line}
-use Rattle.session_lines.specs.Session.{IsSession, lines_limit}
+use Rattle.session_lines.specs.Session.{lines_limit}
 use Rattle.session_lines.specs.Words.{bad_line, many_line}
 use Rattle.session_lines.specs.declared.fault.Word.{Word}
 use Rattle.session_lines.specs.declared.fault.DecodeFault.{DecodeFault}
 use Rattle.session_lines.specs.declared.fault.DecodeFault.TheVariants.{Lines, Bad, OutOfMemory}
-use Rattle.session_more.specs.Decoding.{headed, more_session_of_text}
+use Rattle.session_more.specs.Decoding.{more_session_of_text}
 use Rattle.session_more.specs.Reports.{more_line_text, more_report_text, more_session_counts}
 use Rattle.session_more.specs.declared.session.MoreSession.{MoreSession}
+use Rattle.session_work.specs.MoreWork.{IsMoreSession}
 use Rattle.session_work.specs.Work.{session_limit}
 use Rattle.session_replay.specs.Traffic.{WasRead, WasTaken}
 use Rattle.session_writer.specs.Migrated.{IsMigrated, migrated_text}
@@ -28,7 +29,8 @@ use Rattle.session_replay.specs.declared.top.Status.TheVariants as status
 use Rattle.session_replay.specs.declared.top.Prepared.{Prepared}
 use Rattle.session_replay.specs.declared.top.Prepared.TheVariants as prepared
 
--- the input is a session, and the output is its report with some replies to its queries that this number of workers may give
+-- the input is a session, and the output is its report with some replies to its queries that this number of workers
+-- may give
 abbrev pub Replays : List ℕ → List ℕ → ℕ → Type 0
 Replays input output workers = (s : MoreSession) × (more_session_of_text false input ≡ Ok s)
     × ((ps : List Reply) × AreReplies s workers ps
@@ -59,7 +61,7 @@ reads_session task.Unpack = false
 abbrev pub works : Task → Bool
 works c = reads_session c && not (migrates c)
 
--- the input is a session that can be one of version 2, and the output is it: the text of its values, which decodes to it
+-- the input is a session that can be one of version 2, and the output is the text of its values, which decodes to it
 abbrev pub Migrates : List ℕ → List ℕ → Type 0
 Migrates input output = (s : MoreSession) × (more_session_of_text true input ≡ Ok s) × IsMigrated s input output
 
@@ -85,8 +87,8 @@ HasBad r line = (n : ℕ) × (w : Word) × (r ≡ Err (Bad n w)) × (line ≡ ba
 abbrev pub HasLong : Result MoreSession DecodeFault → List ℕ → Type 0
 HasLong r line = (s : MoreSession) × (r ≡ Ok s) × ((n : ℕ) × (session_records s ≡ Err n) × (line ≡ long_line n))
 
--- the input is not what the task can read, and this is the line that says why: the first bad line of a session, the first operation that
--- is too long, or the first fault of records
+-- the input is not what the task can read, and this is the line that says why: the first bad line of a session, the first
+-- operation that is too long, or the first fault of records
 abbrev pub IsBad : Task → List ℕ → List ℕ → Type 0
 IsBad (task.Replay workers) input line = HasBad (more_session_of_text false input) line
 IsBad task.Check input line = HasBad (more_session_of_text false input) line
@@ -212,12 +214,12 @@ abbrev pub IsPrepared : Task → List ℕ → Prepared → Type 0
 IsPrepared c input (prepared.Response st text) = IsResponse c input st text.items
 IsPrepared c input (prepared.Beside workers s) =
     (c ≡ task.Replay workers) × (1 ≤ workers) × (length input ≤ session_limit)
-    × (more_session_of_text (migrates c) input ≡ Ok s) × IsSession session_limit (headed s)
+    × (more_session_of_text (migrates c) input ≡ Ok s) × IsMoreSession s
 
 -- workers may answer what is left to them
 abbrev pub IsReady : Prepared → Type 0
 IsReady (prepared.Response st text) = ⊤
-IsReady (prepared.Beside workers s) = (1 ≤ workers) × IsSession session_limit (headed s)
+IsReady (prepared.Beside workers s) = (1 ≤ workers) × IsMoreSession s
 
 -- the status and the text of what was prepared
 abbrev pub IsWritten : Prepared → Status → List ℕ → Type 0

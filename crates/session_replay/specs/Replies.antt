@@ -40,7 +40,8 @@ NeverFalls workers p q =
     p.query.replica ≡ q.query.replica → worker_of workers p.query.number ≡ worker_of workers q.query.number
     → p.count ≤ q.count
 
--- the replies to the queries of a session, in their order, with this number of workers; with none each is answered on the spot
+-- the replies to the queries of a session, in their order, with this number of workers; with none each is answered on
+-- the spot
 pub record AreReplies (s : MoreSession) (workers : ℕ) (ps : List Reply) : Type 0 where
   pub queries : map (λ (p : Reply). p.query) ps ≡ more_queries_of s
   pub within : All (IsWithin (plain_end_of s)) ps

@@ -2,9 +2,7 @@
 ghost use Rattle.std.specs.Prelude.{◌≡◌, ◌≤◌, ◌<◌, ◌+◌, [], ◌∷◌, ◌++◌, List, length, map, IfOk, OnErr, OnOk, All, Some};
 ghost use Rattle.std.specs.List.{flat_map};
 ghost use Rattle.session_lines.specs.Report.{report_text};
-ghost use Rattle.session_lines.specs.Session.{IsSession};
 ghost use Rattle.session_lines.specs.declared.report.QueryAnswer.{QueryAnswer};
-ghost use Rattle.session_more.specs.Decoding.{headed};
 ghost use Rattle.session_more.specs.Lines.{query_count};
 ghost use Rattle.session_more.specs.Reports.{more_report_text};
 ghost use Rattle.query_workers.specs.Asks.{Ask};
@@ -17,9 +15,10 @@ ghost use Rattle.query_dispatch.specs.States.{DispatcherState};
 ghost use Rattle.session_replay.specs.Beside.{AsksMore, CanEdit, HasEdited, HasLeft, IsAsking, KeepsEnds, line_of};
 ghost use Rattle.session_replay.specs.Replies.{IsReport};
 ghost use Rattle.session_work.specs.MoreQueries.{more_queries_from, more_query_at};
-ghost use Rattle.session_work.specs.MoreWork.{after_all_more, all_more_events, more_events, more_step};
+ghost use Rattle.session_work.specs.MoreWork.{IsMoreSession, after_all_more, all_more_events, more_events, more_step};
+ghost use Rattle.session_work.specs.Room.{HasRoom, HasRoomFor};
 ghost use Rattle.session_work.specs.Queries.{plain_answer, query_with};
-ghost use Rattle.session_work.specs.Work.{at_end, session_limit, histories};
+ghost use Rattle.session_work.specs.Work.{at_end, histories};
 ghost use Rattle.session_work.specs.Working.{buffers_of, more_state_of};
 ghost use Rattle.session_work.specs.declared.queries.Question.{Question};
 
@@ -72,10 +71,10 @@ impl Editor {
             (buffers_of self.old.progress) self.new.dispatcher publishers.new) }
         ensures err { OnErr result (self.new.dispatcher ≡ self.old.dispatcher) }
     {
-        let Some(index) = self.progress.plain.index_of(id) else {
+        let Some(index) = self.progress.index_of(id) else {
             return Ok(());
         };
-        let snapshot = self.progress.plain.replicas()[index].snapshot()?;
+        let snapshot = self.progress.replicas()[index].snapshot()?;
         let index = index as u32;
         self.dispatcher
             .ask(rt, publishers, index, &snapshot, TextQuery::new(question))?;
@@ -94,6 +93,7 @@ impl Editor {
             × IsAsking (buffers_of self.old.progress) asks self.old.dispatcher publishers.old }
         requires room { self.old.dispatcher.count + query_count (line ∷ [])
             ≤ self.old.dispatcher.limit }
+        requires few { HasRoomFor line (more_state_of self.old.progress) }
         ensures same { self.new.workers ≡ self.old.workers }
         ensures report { OnOk result (self.new.progress.plain.report.items
             ≡ self.old.progress.plain.report.items
@@ -127,6 +127,7 @@ impl Editor {
             × IsAsking (buffers_of self.old.progress) asks self.old.dispatcher publishers.old }
         requires room { self.old.dispatcher.count + query_count lines
             ≤ self.old.dispatcher.limit }
+        requires few { HasRoom (length lines) (more_state_of self.old.progress) }
         ensures same { self.new.workers ≡ self.old.workers }
         ensures report { OnOk result (self.new.progress.plain.report.items
             ≡ self.old.progress.plain.report.items
@@ -286,10 +287,10 @@ fn gathered_report<R: Threads + Sync>(
         progress,
         gathering,
     } = edited;
-    let lasts = progress.plain.snapshots(alloc)?;
+    let lasts = progress.snapshots(alloc)?;
     let (answers, _readers) = gathering.gather(rt, alloc, dones, lasts.as_slice())?;
     let lines = answer_lines(alloc, answers)?;
-    progress.plain.finish(alloc, lines.as_slice())
+    progress.finish(alloc, lines.as_slice())
 }
 
 /// Runs the editor beside its workers, until all have ended.
@@ -328,14 +329,14 @@ fn replay_beside<R: Threads + Wait + Sync, G: Gate>(
     workers: u32,
     session: MoreSession,
 ) -> Result<Vec<u8>, OutOfMemory>
-    requires session { IsSession session_limit (headed session) }
+    requires session { IsMoreSession session }
     requires some { 1 ≤ workers }
     requires none { (publishers.old.workers ≡ workers) × (publishers.old.list ≡ [])
         × (publishers.old.sizes ≡ []) }
     ensures { IfOk result (λ v. IsReport session workers v.items) }
 {
     let progress = MoreProgress::new(alloc, &session)?;
-    let firsts = progress.plain.snapshots(alloc)?;
+    let firsts = progress.snapshots(alloc)?;
     let limit = session.query_count();
     let lines = session.lines.into_queue();
     let (dispatcher, desks) = open_desks(rt, alloc, publishers, firsts, limit)?;
@@ -356,7 +357,7 @@ pub fn report_beside<R: Threads + Wait + Sync, G: Gate>(
     workers: u32,
     session: MoreSession,
 ) -> Result<Vec<u8>, OutOfMemory>
-    requires session { IsSession session_limit (headed session) }
+    requires session { IsMoreSession session }
     requires some { 1 ≤ workers }
     ensures { IfOk result (λ v. IsReport session workers v.items) }
 {

@@ -1,8 +1,8 @@
 //! What the report of a session is, whatever the workers.
 ghost use Rattle.session_replay.specs.Laws.{MigratedReportsAlike, OldReportsStay, PlainWithWorkers, PlainWithoutQueries, PlainWithoutWorkers, RecordsArePlain, RefusalsArePlain};
 
-/// Without workers the output is the plain report: each query is answered at its place in the session. It is so for every
-/// session, also where operations come late.
+/// Without workers the output is the plain report: each query is answered at its place in the session. It is so for
+/// every session, also where operations come late.
 pub fn plain_without_workers()
     ensures { PlainWithoutWorkers }
 {}
@@ -17,13 +17,14 @@ pub fn plain_with_workers()
     ensures { PlainWithWorkers }
 {}
 
-/// A session of the lines of `session_lines` alone reports what these lines report, whatever further kinds of lines there are.
+/// A session of the lines of `session_lines` alone reports what these lines report, whatever further kinds of lines
+/// there are.
 pub fn old_reports_stay()
     ensures { OldReportsStay }
 {}
 
-/// The session that `migrate` writes has the report of its input, byte for byte, where no workers answer queries: none of its texts has a
-/// CR, so its buffers do the same whether they keep texts as they are or make each CR an LF.
+/// The session that `migrate` writes has the report of its input, byte for byte, where no workers answer queries: none of
+/// its texts has a CR, so its buffers do the same whether they keep texts as they are or make each CR an LF.
 pub fn migrated_reports_alike()
     ensures { MigratedReportsAlike }
 {}

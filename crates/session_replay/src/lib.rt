@@ -1,7 +1,8 @@
-//! The top call of the program: the words of a command line and a session's bytes in, its report's bytes and a status out.
+//! The top call of the program: the words of a command line and a session's bytes in, its report's bytes and a status
+//! out.
 //!
-//! `run` does all that the program does. What it is handed are traits, which say what they mean by what they have left or
-//! hold, where they tell it, and by counts.
+//! `run` does all that the program does. Its source and its sink are traits, which say what they mean by what they have
+//! left or hold, where they know it, and by counts.
 #![tactic(auto)]
 
 mod beside;

@@ -13,8 +13,8 @@ use std::alloc::Global;
 use std::sync::Wait;
 use std::thread::Threads;
 
-/// Runs the program on bytes, and drops what it writes. No read and no write fails, so the words and the bytes alone decide how it ends,
-/// unless an allocation fails.
+/// Runs the program on bytes, and drops what it writes. No read and no write fails, so the words and the bytes alone
+/// decide how it ends, unless an allocation fails.
 pub fn run_on_bytes<R: Threads + Wait + Sync, G: Gate>(
     rt: &R,
     alloc: Global,

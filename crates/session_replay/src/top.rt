@@ -8,12 +8,13 @@ ghost use Rattle.command_words.specs.Words.{clap_takes, command_of};
 ghost use Rattle.command_words.specs.declared.command.Command.{Command};
 ghost use Rattle.command_words.specs.declared.command.Task.{Task};
 ghost use Rattle.session_lines.specs.Cut.{lines_of};
-ghost use Rattle.session_lines.specs.Session.{IsSession, lines_limit};
+ghost use Rattle.session_lines.specs.Session.{lines_limit};
 ghost use Rattle.session_lines.specs.Words.{bad_line, many_line};
-ghost use Rattle.session_more.specs.Decoding.{headed, more_session_of_text};
+ghost use Rattle.session_more.specs.Decoding.{more_session_of_text};
 ghost use Rattle.session_more.specs.Reports.{more_line_text, more_session_counts};
 ghost use Rattle.session_more.specs.declared.session.MoreSession.{MoreSession};
 ghost use Rattle.session_work.specs.Making.{Makes};
+ghost use Rattle.session_work.specs.MoreWork.{IsMoreSession};
 ghost use Rattle.session_replay.specs.Replies.{IsReport};
 ghost use Rattle.session_replay.specs.Replay.{Does, Ends, HasMany, IsBad, IsGood, IsOutput, IsPrepared, IsReady, IsRefused, IsWritten, PreparesSource, RespondsToSource, large_line, migrates, reads_session, refusal, usage_line, works};
 ghost use Rattle.session_lines.specs.declared.fault.Word.{Word};
@@ -88,9 +89,10 @@ pub enum Prepared {
     Beside { workers: u32, session: MoreSession },
 }
 
-/// The report of a session, each query answered on the spot, as any number of workers may answer it. The gate is not called.
+/// The report of a session, each query answered on the spot, as any number of workers may answer it. The gate is not
+/// called.
 fn plain_report(alloc: Global, workers: u32, session: MoreSession) -> Result<Vec<u8>, OutOfMemory>
-    requires { IsSession session_limit (headed session) }
+    requires { IsMoreSession session }
     ensures { IfOk result (λ v. IsReport session workers v.items) }
 {
     let _workers = workers;
@@ -127,7 +129,7 @@ fn prepare_report(
     workers: u32,
     session: MoreSession,
 ) -> Result<Prepared, OutOfMemory>
-    requires session { IsSession session_limit (headed session) }
+    requires session { IsMoreSession session }
     ensures ready { IfOk result IsReady }
     ensures prepared { IfOk result (λ p. (input : List ℕ) → length input ≤ session_limit
         → more_session_of_text false input ≡ Ok session
@@ -141,7 +143,7 @@ fn prepare_report(
 
 /// What packing a session comes to.
 fn prepare_records(alloc: Global, session: MoreSession) -> Result<Prepared, OutOfMemory>
-    requires session { IsSession session_limit (headed session) }
+    requires session { IsMoreSession session }
     ensures ready { IfOk result IsReady }
     ensures prepared { IfOk result (λ p. (input : List ℕ) → length input ≤ session_limit
         → more_session_of_text false input ≡ Ok session → IsPrepared Task.Pack input p) }
@@ -156,7 +158,7 @@ fn prepare_records(alloc: Global, session: MoreSession) -> Result<Prepared, OutO
 /// What a session comes to where nobody waits, for a task that reads one and does not migrate it.
 fn prepare_session(alloc: Global, task: Task, session: MoreSession) -> Result<Prepared, OutOfMemory>
     requires task { works task ≡ true }
-    requires session { IsSession session_limit (headed session) }
+    requires session { IsMoreSession session }
     ensures ready { IfOk result IsReady }
     ensures prepared { IfOk result (λ p. (input : List ℕ) → length input ≤ session_limit
         → more_session_of_text (migrates task) input ≡ Ok session → IsPrepared task input p) }
@@ -405,16 +407,18 @@ fn make_session<O: Sink>(alloc: Global, seed: u32, replicas: u16, edits: u32, ou
     }
 }
 
-/// Runs the program: reads the words, then the source to its end or to one byte past the limit of 67,108,864 bytes, and decodes the
-/// session. Writes its report, for `check` the line with its counts, for `migrate` the session as one of version 2, or for `pack` the
-/// records of the operations that it makes; `unpack` reads records, and writes the lines of their operations. `make` reads no
-/// source: it makes a session, works it and writes its summary. Only a replay with workers may wait, for the gate and for its threads.
+/// Runs the program: reads the words, then the source to its end or to one byte past the limit of 67,108,864 bytes, and
+/// decodes the session. Writes its report, for `check` the line with its counts, for `migrate` the session as one of
+/// version 2, or for `pack` the records of the operations that it makes; `unpack` reads records, and writes the lines of
+/// their operations. `make` reads no source: it makes a session, works it and writes its summary. Only a replay with
+/// workers may wait, for the gate and for its threads.
 ///
-/// The output is held whole, the input until it is decoded, or for `migrate` and `unpack` until the output is made. An edit or undo, made or taken,
-/// costs a few descents for each of its pieces and for each run of bytes that it shows or hides, and a line that shows a text as much
-/// as the text. A `give` shares the operation that it names with the buffer. A `reopen` line costs what applying all that its replica
-/// has applied does. A query is answered on a snapshot, for which nothing is copied: a `find` goes over the text once, and keeps 8
-/// bytes for each place; a `point` or an `offset` goes down the rope.
+/// The output is held whole, the input until it is decoded, or for `migrate` and `unpack` until the output is made. An edit
+/// or undo, made or taken, costs a few descents for each of its pieces and for each run of bytes that it shows or hides,
+/// and a line that shows a text as much as the text. A `give` shares the operation that it names with the buffer. A
+/// `reopen` line costs what applying all that its replica has applied does. A query is answered on a snapshot, for which
+/// nothing is copied: a `find` goes over the text once, and keeps 8 bytes for each place; a `point` or an `offset` goes
+/// down the rope.
 pub fn run<R: Threads + Wait + Sync, I: Source, O: Sink, G: Gate>(
     rt: &R,
     alloc: Global,
@@ -446,8 +450,8 @@ pub fn run<R: Threads + Wait + Sync, I: Source, O: Sink, G: Gate>(
         → (src.new ≡ src.old)
         × ((result ≡ Status.Done) ⊎ ((result ≡ Status.Memory) ⊎ (result ≡ Status.WriteFault))) }
 
-    // Session: the input was read to its end, and has a first bad line, or a first operation that is too long for a record, or a
-    // first fault of records.
+    // Session: the input was read to its end, and has a first bad line, or a first operation that is too long for a
+    // record, or a first fault of records.
     ensures session { result ≡ Status.Session → (task : Task)
         × (command_of words.now ≡ Some (Command.Read task))
         × ((input : List ℕ)
@@ -460,7 +464,8 @@ pub fn run<R: Threads + Wait + Sync, I: Source, O: Sink, G: Gate>(
         → (task : Task) → command_of words.now ≡ Some (Command.Read task)
         → Rose (I.ends src.old) (I.ends src.new) }
 
-    // TooLarge: more bytes than the limit were read, or the input was read to its end and has more lines than a session may have.
+    // TooLarge: more bytes than the limit were read, or the input was read to its end and has more lines than a session
+    // may have.
     ensures large { result ≡ Status.TooLarge → (task : Task)
         × (command_of words.now ≡ Some (Command.Read task))
         × ((IfSome (I.left src.old) (λ input. session_limit < length input)
@@ -495,7 +500,8 @@ pub fn run<R: Threads + Wait + Sync, I: Source, O: Sink, G: Gate>(
     // Memory is free, and nothing was written.
     ensures memory { result ≡ Status.Memory → out.new ≡ out.old }
 
-    // Where no fault was counted, an input within the limit of which the task can make something is read so, and another one is refused.
+    // Where no fault was counted, an input within the limit of which the task can make something is read so, and another
+    // one is refused.
     ensures completes { (Rose (I.faults src.old) (I.faults src.new) → ⊥)
         → (Rose (O.faults out.old) (O.faults out.new) → ⊥)
         → (task : Task) → command_of words.now ≡ Some (Command.Read task)

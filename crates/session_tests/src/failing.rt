@@ -122,8 +122,8 @@ texts equal
     },
 ];
 
-/// Runs each row with calls of each size: with each of its calls failing in turn, and with the one after the last failing,
-/// which is not made.
+/// Runs each row with calls of each size: with each of its calls failing in turn, and with the one after the last
+/// failing, which is not made.
 pub fn test<R: Host>(rt: &R, tally: &mut Tally) {
     for row in ROWS {
         match joined(rt.alloc(), row.input) {

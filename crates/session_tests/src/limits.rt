@@ -170,6 +170,49 @@ const ROWS: &[Row] = &[
         output: &[(LONG_FRONT, b'a', 65_536), (LONG_BACK, 0, 0)],
         is_whole: true,
     },
+    Row {
+        name: "an operation whose new texts have 65,537 bytes",
+        words: "replay --workers 0",
+        input: &[(OPERATION, b'a', 65_537), ("\"]]]\n[\"give\",1,1]\n", 0, 0)],
+        ends: AMPLE,
+        output: &[(
+            "1: 2.1\ngive 1 to 1: textlimit 65537\nreplica 1: 2 bytes, 1 rows, 0 applied, 0 waiting, 0 refused\nfinal 1: \"ab\"\n",
+            0,
+            0,
+        )],
+        is_whole: true,
+    },
+    // The new texts of all excerpts are counted together and as they are given, before a change that crosses.
+    Row {
+        name: "new texts of excerpts of 65,537 and 65,536 bytes",
+        words: "replay",
+        input: &[
+            (
+                "[\"zedbuf\",2,\"ab\",[1,2]]\n[\"excerpt\",\"m\",1,0,2]\n[\"excerpt\",\"m\",2,0,2]\n[\"medit\",\"m\",[[0,0,\"",
+                b'a',
+                32_768,
+            ),
+            ("\"],[3,3,\"", b'b', 32_769),
+            ("\"]]]\n[\"medit\",\"m\",[[0,0,\"", b'a', 32_768),
+            ("\"],[3,3,\"", b'b', 32_768),
+            (
+                "\"]]]\n[\"undo\",1,[3]]\n[\"undo\",2,[4]]\n[\"medit\",\"m\",[[0,0,\"",
+                b'a',
+                65_535,
+            ),
+            ("\\r\\n\"]]]\n[\"edit\",1,[[0,0,\"", b'a', 65_535),
+            (
+                "\\r\\n\"]]]\n[\"undo\",1,[9]]\n[\"medit\",\"m\",[[2,3,\"",
+                b'a',
+                65_537,
+            ),
+            ("\"]]]\n[\"medit\",\"m\",[[2,3,\"", b'a', 65_536),
+            ("\"]]]\n[\"multi\",\"m\"]\n", 0, 0),
+        ],
+        ends: AMPLE,
+        output: &[(LIMITED, 0, 0)],
+        is_whole: true,
+    },
     // What is written has a byte more than a session may have.
     Row {
         name: "as many bytes as there may be, without a last line feed",
@@ -200,7 +243,7 @@ const ROWS: &[Row] = &[
         is_whole: true,
     },
     Row {
-        name: "as long a text as a record may have",
+        name: "as long a text as a record may have, packed",
         words: "pack",
         input: &[(OPERATION, b'a', 65_536), ("\"]]]\n", 0, 0)],
         ends: AMPLE,
@@ -208,7 +251,7 @@ const ROWS: &[Row] = &[
         is_whole: true,
     },
     Row {
-        name: "as long a text as a record may have",
+        name: "as long a text as a record may have, unpacked",
         words: "unpack",
         input: LONG_RECORD,
         ends: AMPLE,
@@ -235,7 +278,7 @@ const ROWS: &[Row] = &[
         is_whole: true,
     },
     Row {
-        name: "one line more than there may be",
+        name: "one line more than there may be, packed",
         words: "pack",
         input: &[("", b'\n', LINES + 1)],
         ends: Ends { status: 6, ..SHORT },
@@ -252,7 +295,7 @@ const ROWS: &[Row] = &[
         is_whole: true,
     },
     Row {
-        name: "as many bytes as there may be",
+        name: "as many bytes of records as there may be",
         words: "unpack",
         input: &[("", 0, LIMIT)],
         ends: Ends { status: 5, ..SHORT },
@@ -260,7 +303,7 @@ const ROWS: &[Row] = &[
         is_whole: true,
     },
     Row {
-        name: "more bytes than there may be",
+        name: "more bytes of records than there may be",
         words: "unpack",
         input: &[("", 0, LIMIT + 1)],
         ends: Ends { status: 6, ..SHORT },
@@ -303,6 +346,24 @@ const LONG_FRONT: &str = "1: textlimit 65537
 2: 2.1
 replica 1: 65538 bytes, 1 rows, 1 applied, 0 waiting, 0 refused
 final 1: \"";
+
+const LIMITED: &str = "excerpt \"m\": 0
+excerpt \"m\": 1
+medit \"m\": textlimit 65537
+medit \"m\": 3 2.1, 4 2.2
+5: 3.1
+6: 3.2
+medit \"m\": textlimit 65537
+9: 4.1
+10: 5.1
+medit \"m\": textlimit 65537
+medit \"m\": crosses 0
+multi \"m\": 5 bytes, \"ab\\nab\"
+replica 1: 2 bytes, 1 rows, 4 applied, 0 waiting, 0 refused
+final 1: \"ab\"
+replica 2: 2 bytes, 1 rows, 2 applied, 0 waiting, 0 refused
+final 2: \"ab\"
+";
 
 const LONG_BACK: &str = "ab\"
 replica 2: 2 bytes, 1 rows, 0 applied, 0 waiting, 0 refused

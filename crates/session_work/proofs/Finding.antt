@@ -7,7 +7,9 @@ use Rattle.text_buffer.specs.Buffer.{BaseText, BufferState}
 use Rattle.session_lines.specs.Report.{report_text}
 use Rattle.session_lines.specs.declared.report.Report.{Report}
 use Rattle.session_work.specs.Work.{buffer_of, first_buffer, reports_at, with_buffer}
+use Rattle.session_work.specs.Later.{AllGrow}
 use Rattle.session_work.proofs.Buffers.{found, is_own, not_found}
+use Rattle.session_work.proofs.Growth.{as_many}
 use Rattle.session_work.proofs.Steps.{none_reported}
 
 -- ---- buffers that are opened for ids
@@ -19,6 +21,18 @@ place-opened base r (i ∷ ids) = ap (λ (m : ℕ). cond (not (i == r)) (1 + m) 
 -- the place of a replica is that of its id
 pub position-opened : (base : BaseText) (r : ℕ) (ids : List ℕ) → position (is_own r) (map (first_buffer base) ids) ≡ position (λ (i : ℕ). i == r) ids
 position-opened base r ids = ap₂ (λ (m n : ℕ). cond (nat_lt m n) (Some m) None) (place-opened base r ids) (length-map ids (first_buffer base))
+
+-- ---- buffers that grow
+
+place-grown : (r : ℕ) (bs cs : List BufferState) → AllGrow bs cs → position_or_len (is_own r) bs ≡ position_or_len (is_own r) cs
+place-grown r [] [] g = refl
+place-grown r [] (c ∷ cs) g = absurd g
+place-grown r (b ∷ bs) [] g = absurd g
+place-grown r (b ∷ bs) (c ∷ cs) g = ap₂ (λ (q m : ℕ). cond (not (q == r)) (1 + m) 0) (sym g.0.0) (place-grown r bs cs g.1)
+
+-- the place of a replica stays
+pub position-grown : (r : ℕ) (bs cs : List BufferState) → AllGrow bs cs → position (is_own r) bs ≡ position (is_own r) cs
+position-grown r bs cs g = ap₂ (λ (m n : ℕ). cond (nat_lt m n) (Some m) None) (place-grown r bs cs g) (sym (as_many bs cs g))
 
 -- ---- f is what becomes of the buffer of replica r
 

@@ -1,5 +1,5 @@
 -- What a replica has applied at one line of a session begins what it has applied at each later one.
-use Rattle.std.proofs.Common.{◌≡◌, ℕ, zero, suc, ◌≤◌, ◌⊎◌, inl, inr, Bool, true, false, cond, ◌==◌, List, [], ◌∷◌, length, get_or, set, Option, None, Some, Result, Ok, Err, OnErr, OnOk, refl, sym, ap, ◌∙◌, subst, arith}
+use Rattle.std.proofs.Common.{◌≡◌, ℕ, zero, suc, ◌+◌, ◌≤◌, ◌⊎◌, inl, inr, Bool, true, false, cond, ◌==◌, List, [], ◌∷◌, length, get_or, set, Option, None, Some, Result, Ok, Err, OnErr, OnOk, refl, sym, ap, ◌∙◌, subst, arith}
 use Rattle.std.specs.List.{AllByRecursion}
 use Rattle.op_model.specs.declared.operation.Operation.{Operation}
 use Rattle.op_model.specs.Steps.{Step, Settles, Takes}
@@ -8,13 +8,17 @@ use Rattle.op_model.proofs.MainLaws.{runs_append}
 use Rattle.text_buffer.specs.Buffer.{BufferState, after_calls, after_apply, after_settle, after_take, rules, state}
 use Rattle.text_buffer.specs.Calls.{IsStopped}
 use Rattle.text_buffer.specs.Document.{IsFront}
+use Rattle.multi_buffer.specs.declared.parts.BufferPieces.{BufferPieces}
+use Rattle.session_excerpts.specs.Answers.{pieces_at}
 use Rattle.session_lines.specs.declared.report.Report.{Report}
 use Rattle.session_lines.specs.declared.session.SessionLine.{SessionLine}
 use Rattle.session_lines.specs.declared.session.SessionLine.TheVariants as line
+use Rattle.session_more.specs.declared.report.PartAnswer.{PartAnswer}
 use Rattle.session_more.specs.declared.session.MoreLine.{MoreLine}
 use Rattle.session_more.specs.declared.session.MoreLine.TheVariants as more
 use Rattle.session_work.specs.Later.{AllGrow, Grows}
-use Rattle.session_work.specs.MoreWork.{MoreState, after_all_more, more_step}
+use Rattle.session_work.specs.MoreWork.{MoreState, after_all_more, more_step, split_at}
+use Rattle.session_work.specs.Parts.{after_part, after_parts_from, part_outcome, parts_of}
 use Rattle.session_work.specs.Work.{State, after_give, after_outcome, after_reopen, buffer_of, edit_outcome, next_number, operation_of, step, undo_outcome, with_buffer}
 use Rattle.text_buffer.proofs.Fronts.{front_itself, front_length, front_trans}
 use Rattle.text_buffer.proofs.Stopped.{stopped_front}
@@ -70,6 +74,13 @@ all_trans (b ∷ bs) [] ds f g = absurd f
 all_trans (b ∷ bs) (c ∷ cs) [] f g = g
 all_trans (b ∷ bs) (c ∷ cs) (d ∷ ds) f g = (grows_trans b c d f.0 g.0, all_trans bs cs ds f.1 g.1)
 
+-- there are as many
+pub as_many : (bs cs : List BufferState) → AllGrow bs cs → length cs ≡ length bs
+as_many [] [] g = refl
+as_many [] (c ∷ cs) g = absurd g
+as_many (b ∷ bs) [] g = absurd g
+as_many (b ∷ bs) (c ∷ cs) g = ap suc (as_many bs cs g.1)
+
 -- one of them grows
 set_one : (bs : List BufferState) (i : ℕ) (b c : BufferState) → b ≡ get_or bs i b → Grows b c → AllGrow bs (set bs i c)
 set_one [] i b c e g = tt
@@ -103,11 +114,26 @@ step_grows (line.Point r o) s = all_themselves s.buffers
 step_grows (line.Offset r k c) s = all_themselves s.buffers
 step_grows (line.Reopen r) s = one_grows r after_reopen reopen_grows s.buffers
 
+pub part_grows : (o : Result Operation PartAnswer) (b : BufferState) → Grows b (after_part o b)
+part_grows (Ok op) b = grows_trans b (after_apply b op) (after_settle (after_apply b op)) (refl, (op ∷ [], refl)) (calls_grow (Settles ∷ []) (after_apply b op))
+part_grows (Err a) b = grows_itself b
+
+parts_grow : (i : ℕ) (gs : List BufferPieces) (bs : List BufferState) → AllGrow bs (after_parts_from i gs bs)
+parts_grow i gs [] = tt
+parts_grow i gs (b ∷ bs) = (part_grows (part_outcome (pieces_at i gs) b) b, parts_grow (i + 1) gs bs)
+
 pub more_step_grows : (l : MoreLine) (s : MoreState) → AllGrow s.plain.buffers (more_step l s).plain.buffers
 more_step_grows (more.Plain l) s = step_grows l s.plain
 more_step_grows (more.Select r name rs) s = all_themselves s.plain.buffers
 more_step_grows (more.Share r name) s = all_themselves s.plain.buffers
 more_step_grows (more.Selected r a) s = all_themselves s.plain.buffers
+more_step_grows (more.Fold r start end) s = all_themselves s.plain.buffers
+more_step_grows (more.Unfold r start end) s = all_themselves s.plain.buffers
+more_step_grows (more.Folded r) s = all_themselves s.plain.buffers
+more_step_grows (more.Display r o) s = all_themselves s.plain.buffers
+more_step_grows (more.Excerpt name r start end) s = all_themselves s.plain.buffers
+more_step_grows (more.Multi name) s = all_themselves s.plain.buffers
+more_step_grows (more.Medit name ps) s = parts_grow 0 (parts_of (split_at name ps s)) s.plain.buffers
 
 pub lines_grow : (ls : List MoreLine) (s : MoreState) → AllGrow s.plain.buffers (after_all_more ls s).plain.buffers
 lines_grow [] s = all_themselves s.plain.buffers

@@ -137,3 +137,7 @@ module _ (r : ℕ) (g : ℕ → BufferState → Result Operation Report) (s : Ex
 
   pub more_there : AreThere cs new
   more_there = one_there r (g number) bs cs ks new n made grow there is count_in made_is put_in
+
+-- the buffers of an exchange that stands for s have grown to cs
+pub grown : (s : ExchangeState) (bs cs : List BufferState) (ks : List Named) → ◌≡◌ {A = ExchangeState} (record { buffers = bs; operations = map (operation_in bs) ks }) s → AllGrow bs cs → AllGrow s.buffers cs
+grown s bs cs ks view g = subst (λ (t : ExchangeState). AllGrow t.buffers cs) view g

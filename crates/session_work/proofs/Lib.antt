@@ -1,5 +1,11 @@
 pub mod MoreReports
 pub mod Selecting
+pub mod Behind
+pub mod Folding
+pub mod Read
+pub mod Worked
+pub mod Parts
+pub mod Excerpting
 pub mod Buffers
 pub mod Ends
 pub mod Steps

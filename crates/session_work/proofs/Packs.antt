@@ -1,10 +1,12 @@
 -- Operations with their lines, in the order of their numbers.
 use Rattle.std.proofs.Common.{◌≡◌, ℕ, suc, ◌+◌, ◌-◌, ◌<◌, ◌≤◌, List, [], ◌∷◌, ◌++◌, append_assoc, append-nil, drop, drop-cons, get_or, length, Option, None, Some, refl, sym, ap, ap₂, ◌∙◌, arith}
+use Rattle.std.specs.Prelude.{replicate}
 use Rattle.op_model.specs.declared.operation.Operation.{Operation}
+use Rattle.session_more.specs.Lines.{number_count}
 use Rattle.session_more.specs.declared.session.MoreLine.{MoreLine}
 use Rattle.session_more.specs.declared.session.MoreSession.{MoreSession}
 use Rattle.session_work.specs.MoreWork.{MoreState, after_all_more, more_opening}
-use Rattle.session_work.specs.Packing.{if_operation, lines_from, made_operations, with_line, with_lines}
+use Rattle.session_work.specs.Packing.{lines_from, made_operations, with_line, with_lines}
 use Rattle.session_work.specs.Work.{operation_of}
 
 -- ---- operations by number
@@ -29,32 +31,33 @@ module _ (k i : ℕ) (ns : List ℕ) (n : ℕ) (ops : List (Option Operation)) (
 
 -- ---- the lines of the numbers
 
-pub numbered : (end : ℕ) (line : MoreLine) (rest lines : List MoreLine) (numbers new all : List ℕ) → lines ≡ line ∷ rest → length lines + 2 ≤ end
-    → numbers ++ lines_from (end - length lines) lines ≡ all → new ≡ numbers ++ if_operation line (end - length rest - 1) → new ++ lines_from (end - length rest) rest ≡ all
-numbered end line rest lines numbers new all begins within whole pushed =
+pub numbered : (replicas end : ℕ) (line : MoreLine) (rest lines : List MoreLine) (numbers new all : List ℕ) → lines ≡ line ∷ rest → length lines + 2 ≤ end
+    → numbers ++ lines_from replicas (end - length lines) lines ≡ all → new ≡ numbers ++ replicate (number_count replicas line) (end - length rest - 1) → new ++ lines_from replicas (end - length rest) rest ≡ all
+numbered replicas end line rest lines numbers new all begins within whole pushed =
     let n : ℕ = end - length lines in
     let next : end - length rest ≡ n + 1 = omega (arith, ap length begins, within) in
     let here : end - length rest - 1 ≡ n = omega (arith, ap length begins, within) in
-    ap (λ (x : List ℕ). x ++ lines_from (end - length rest) rest) pushed
-    ∙ (append_assoc numbers (if_operation line (end - length rest - 1)) (lines_from (end - length rest) rest)
-    ∙ (ap₂ (λ (m j : ℕ). numbers ++ (if_operation line m ++ lines_from j rest)) here next
-    ∙ (ap (λ (ls : List MoreLine). numbers ++ lines_from n ls) (sym begins) ∙ whole)))
+    let taken : ℕ → List ℕ = λ m. replicate (number_count replicas line) m in
+    ap (λ (x : List ℕ). x ++ lines_from replicas (end - length rest) rest) pushed
+    ∙ (append_assoc numbers (taken (end - length rest - 1)) (lines_from replicas (end - length rest) rest)
+    ∙ (ap₂ (λ (m j : ℕ). numbers ++ (taken m ++ lines_from replicas j rest)) here next
+    ∙ (ap (λ (ls : List MoreLine). numbers ++ lines_from replicas n ls) (sym begins) ∙ whole)))
 
 -- before the first line, and after the last one
-pub numbered_at_first : (end : ℕ) (lines : List MoreLine) (numbers : List ℕ) → end ≡ length lines + 2 → numbers ++ lines_from (end - length lines) lines ≡ numbers ++ lines_from 2 lines
-numbered_at_first end lines numbers is =
+pub numbered_at_first : (replicas end : ℕ) (lines : List MoreLine) (numbers : List ℕ) → end ≡ length lines + 2 → numbers ++ lines_from replicas (end - length lines) lines ≡ numbers ++ lines_from replicas 2 lines
+numbered_at_first replicas end lines numbers is =
     let two : end - length lines ≡ 2 = omega (arith, is) in
-    ap (λ (n : ℕ). numbers ++ lines_from n lines) two
+    ap (λ (n : ℕ). numbers ++ lines_from replicas n lines) two
 
-pub numbered_all : (n : ℕ) (left : List MoreLine) (numbers all : List ℕ) → left ≡ [] → numbers ++ lines_from n left ≡ all → numbers ≡ all
-numbered_all n left numbers all none whole =
-    sym (append-nil numbers) ∙ (ap (λ (ls : List MoreLine). numbers ++ lines_from n ls) (sym none) ∙ whole)
+pub numbered_all : (replicas n : ℕ) (left : List MoreLine) (numbers all : List ℕ) → left ≡ [] → numbers ++ lines_from replicas n left ≡ all → numbers ≡ all
+numbered_all replicas n left numbers all none whole =
+    sym (append-nil numbers) ∙ (ap (λ (ls : List MoreLine). numbers ++ lines_from replicas n ls) (sym none) ∙ whole)
 
 -- what is made of a session
-module _ (s : MoreSession) (ls : List MoreLine) (first last : MoreState) (none numbers : List ℕ) (ops : List (ℕ × Operation)) where
-  pub are-made : ls ≡ s.lines → first ≡ more_opening s → none ≡ [] → numbers ≡ none ++ lines_from 2 ls → last ≡ after_all_more ls first → ops ≡ with_lines 0 numbers last.plain.operations
+module _ (s : MoreSession) (replicas : ℕ) (ls : List MoreLine) (first last : MoreState) (none numbers : List ℕ) (ops : List (ℕ × Operation)) where
+  pub are-made : replicas ≡ length s.replicas → ls ≡ s.lines → first ≡ more_opening s → none ≡ [] → numbers ≡ none ++ lines_from replicas 2 ls → last ≡ after_all_more ls first → ops ≡ with_lines 0 numbers last.plain.operations
       → ops ≡ made_operations s
-  are-made lines begins empty n ends is =
-      let taken : numbers ≡ lines_from 2 s.lines = n ∙ (ap (λ (x : List ℕ). x ++ lines_from 2 ls) empty ∙ ap (λ (l : List MoreLine). lines_from 2 l) lines) in
+  are-made count lines begins empty n ends is =
+      let taken : numbers ≡ lines_from (length s.replicas) 2 s.lines = n ∙ (ap (λ (x : List ℕ). x ++ lines_from replicas 2 ls) empty ∙ ap₂ (λ (r : ℕ) (l : List MoreLine). lines_from r 2 l) count lines) in
       let at_end : last ≡ after_all_more s.lines (more_opening s) = ends ∙ ap₂ (λ (l : List MoreLine) (t : MoreState). after_all_more l t) lines begins in
       is ∙ ap₂ (λ (ns : List ℕ) (t : MoreState). with_lines 0 ns t.plain.operations) taken at_end

@@ -13,14 +13,14 @@ use Rattle.session_work.proofs.MoreReports.{nothing_written}
 pub returned : (r q : Option MoreReport) (out new : List ℕ) → r ≡ q → new ≡ out ++ more_report_text (option_to_list r) → new ≡ out ++ more_report_text (option_to_list q)
 returned r q out new e n = n ∙ ap (λ (r : Option MoreReport). out ++ more_report_text (option_to_list r)) e
 
--- the replica is there, with what it has applied
-pub heard : (f : History → Option MoreReport) (o : Option History) (h : History) (r : Option MoreReport) (out new : List ℕ) → Some h ≡ o → r ≡ f h → new ≡ out ++ more_report_text (option_to_list r)
+-- the replica is there, with what it has applied or with its index
+pub heard : {A : Type 0} (f : A → Option MoreReport) (o : Option A) (h : A) (r : Option MoreReport) (out new : List ℕ) → Some h ≡ o → r ≡ f h → new ≡ out ++ more_report_text (option_to_list r)
     → new ≡ out ++ more_report_text (option_to_list (option_and_then f o))
 heard f o h r out new e is n = returned r (option_and_then f o) out new (is ∙ ap (option_and_then f) e) n
 
 -- it is not there, and nothing is written
-pub unheard : (f : History → Option MoreReport) (o : Option History) (out : List ℕ) → None ≡ o → out ≡ out ++ more_report_text (option_to_list (option_and_then f o))
-unheard f o out e = nothing_written out ∙ ap (λ (o : Option History). out ++ more_report_text (option_to_list (option_and_then f o))) e
+pub unheard : {A : Type 0} (f : A → Option MoreReport) (o : Option A) (out : List ℕ) → None ≡ o → out ≡ out ++ more_report_text (option_to_list (option_and_then f o))
+unheard f o out e = nothing_written out ∙ ap (λ o. out ++ more_report_text (option_to_list (option_and_then f o))) e
 
 -- selections after it
 pub changed : (s : MoreState) (w v : SelectionWork) → w ≡ v → ◌≡◌ {A = MoreState} (record s { selections = w }) (record s { selections = v })

@@ -1,6 +1,7 @@
 pub mod Names
 pub mod Work
 pub mod Queries
+pub mod Parts
 pub mod MoreWork
 pub mod MoreQueries
 pub mod ReplicaId
@@ -8,6 +9,9 @@ pub mod Later
 pub mod Exchange
 pub mod ExchangeInside
 pub mod Working
+pub mod Behind
+pub mod MoreInside
+pub mod Room
 pub mod Making
 pub mod MakingOn
 pub mod Packing

@@ -20,6 +20,13 @@ more_question_of (line.Plain l) = question_of l
 more_question_of (line.Select r name rs) = None
 more_question_of (line.Share r name) = None
 more_question_of (line.Selected r a) = None
+more_question_of (line.Fold r start end) = None
+more_question_of (line.Unfold r start end) = None
+more_question_of (line.Folded r) = None
+more_question_of (line.Display r o) = None
+more_question_of (line.Excerpt name r start end) = None
+more_question_of (line.Multi name) = None
+more_question_of (line.Medit name ps) = None
 
 -- the query that a line is, as query q
 abbrev pub more_query_at : ℕ → MoreLine → MoreState → List AskedQuery

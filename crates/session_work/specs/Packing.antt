@@ -1,21 +1,17 @@
 -- The operations that a session makes, and their records.
-use Rattle.std.specs.Prelude.{ℕ, ◌+◌, List, [], ◌∷◌, ◌++◌, Option, None, Some, Result, if◌then◌else◌}
+use Rattle.std.specs.Prelude.{ℕ, ◌+◌, List, [], ◌∷◌, ◌++◌, length, replicate, Option, None, Some, Result}
 use Rattle.op_model.specs.declared.operation.Operation.{Operation}
 use Rattle.record_lines.specs.Packing.{records_of}
-use Rattle.session_more.specs.Lines.{is_operation}
+use Rattle.session_more.specs.Lines.{number_count}
 use Rattle.session_more.specs.declared.session.MoreLine.{MoreLine}
 use Rattle.session_more.specs.declared.session.MoreSession.{MoreSession}
 use Rattle.session_work.specs.MoreWork.{after_all_more, more_opening}
 use Rattle.session_work.specs.Work.{operation_of}
 
--- n, if the line is an operation line
-abbrev pub if_operation : MoreLine → ℕ → List ℕ
-if_operation l n = if is_operation l then n ∷ [] else []
-
--- the numbers of the operation lines among these lines, the first of which is line n
-abbrev pub lines_from : ℕ → List MoreLine → List ℕ
-lines_from n [] = []
-lines_from n (l ∷ ls) = if_operation l n ++ lines_from (n + 1) ls
+-- the line of each number that these lines take, the first of which is line n, in a session of so many replicas
+abbrev pub lines_from : ℕ → ℕ → List MoreLine → List ℕ
+lines_from replicas n [] = []
+lines_from replicas n (l ∷ ls) = replicate (number_count replicas l) n ++ lines_from replicas (n + 1) ls
 
 abbrev pub with_line : ℕ → Option Operation → List (ℕ × Operation) → List (ℕ × Operation)
 with_line n None ops = ops
@@ -29,7 +25,7 @@ with_lines k (n ∷ ns) ops = with_line n (operation_of (k + 1) ops) (with_lines
 -- the operations that the operation lines of a session make, by number, each with its line; the header is line 1
 abbrev pub made_operations : MoreSession → List (ℕ × Operation)
 made_operations s =
-    with_lines 0 (lines_from 2 s.lines) (after_all_more s.lines (more_opening s)).plain.operations
+    with_lines 0 (lines_from (length s.replicas) 2 s.lines) (after_all_more s.lines (more_opening s)).plain.operations
 
 -- their records, or the line of the first that is too long for one
 abbrev pub session_records : MoreSession → Result (List ℕ) ℕ

@@ -1,13 +1,15 @@
 //! The replicas of a session, and the operations of its operation lines.
 ghost use Rattle.op_model.specs.Domains.{IsReplica};
-ghost use Rattle.std.specs.Prelude.{◌≡◌, ◌≤◌, ◌+◌, ◌++◌, ◌==◌, [], ◌∷◌, is_none, is_some, length, map, All, IfOk, OnOk, Some};
+ghost use Rattle.std.specs.Prelude.{◌≡◌, ◌≤◌, ◌<◌, ◌+◌, ◌^◌, ◌++◌, ◌==◌, List, [], ◌∷◌, is_none, is_some, length, map, All, IfOk, OnOk, Some};
 ghost use Rattle.std.specs.Option.{option_and_then, option_copied, option_map};
 ghost use Rattle.std.specs.Result.{result_ok};
 ghost use Rattle.std.specs.List.{count_by, position};
 ghost use Rattle.session_lines.specs.Report.{report_text};
-ghost use Rattle.text_buffer.specs.Buffer.{base_under};
+ghost use Rattle.text_buffer.specs.Buffer.{BufferState, base_under};
+ghost use Rattle.session_work.specs.Later.{AllGrow};
 ghost use Rattle.session_work.specs.Packing.{with_line, with_lines};
-ghost use Rattle.session_work.specs.Exchange.{applied_at, applied_len, is_named, named_made};
+ghost use Rattle.session_work.specs.Parts.{after_parts_from, numbered, outcomes_from, part_answer, settled_from};
+ghost use Rattle.session_work.specs.Exchange.{AreThere, IsThere, applied_at, applied_len, is_named, named_made, operation_in};
 ghost use Rattle.session_work.specs.Work.{after_give, after_outcome, after_reopen, applied_count, buffer_of, edit_outcome, first_buffer, first_unnamed, give_answer, operation_of, outcome_reports, reports_at, stamps_under, undo_outcome, with_buffer, session_limit};
 
 use crate::OutOfMemory;
@@ -15,7 +17,9 @@ use crate::replica::Replica;
 use crate::replicas::Replicas;
 use lamport_clock::Lamport;
 use op_model::{Endings, Operation, Pieces};
+use session_excerpts::SplitParts;
 use session_lines::GiveAnswer;
+use session_more::{NumberAnswer, NumberAnswers, PartAnswer};
 use std::alloc::Global;
 use std::marker::Model;
 
@@ -24,9 +28,9 @@ use std::marker::Model;
 pub enum Named {
     /// A replica made it: the replica's id, and the operation's index among what the replica has applied.
     Made(u16, u64),
-    /// The line has it in it.
+    /// It is kept here: the line has it in it, or edits several replicas.
     Read(Box<Operation>),
-    /// The line was refused, and has none.
+    /// The line was refused, or is of no piece of the replica, and has none.
     Nothing,
 }
 
@@ -195,6 +199,7 @@ impl Exchange {
             ≡ self.old.operations ++ option_and_then
             (λ b. result_ok (edit_outcome (length self.old.operations + 1) pieces.now b))
             (buffer_of id self.old.buffers) ∷ []) }
+        ensures grows { AllGrow self.old.buffers self.new.buffers }
     {
         let number = self.next_number();
         let index = self.applied_len(id);
@@ -224,6 +229,7 @@ impl Exchange {
             ≡ self.old.operations ++ option_and_then (λ b. result_ok
             (undo_outcome (length self.old.operations + 1) self.old.operations numbers.now b))
             (buffer_of id self.old.buffers) ∷ []) }
+        ensures grows { AllGrow self.old.buffers self.new.buffers }
     {
         let number = self.next_number();
         let index = self.applied_len(id);
@@ -236,11 +242,37 @@ impl Exchange {
         Ok(())
     }
 
+    /// Edits the text of each replica by its pieces of an edit of excerpts, if it has some, and settles it, each as the next operation
+    /// line. Reports the settling alone. Returns what is said of each number. An operation that is made is kept a second time; it shares
+    /// the texts.
+    pub fn edit_parts(
+        &mut self,
+        alloc: Global,
+        parts: &SplitParts,
+        out: &mut Vec<u8>,
+    ) -> Result<NumberAnswers, OutOfMemory>
+        requires { length self.old.buffers < 2 ^ 32 }
+        ensures report { OnOk result (out.new.items
+            ≡ out.old.items ++ report_text (settled_from 0 parts.now self.old.buffers)) }
+        ensures answers { IfOk result (λ a. a ≡ numbered (length self.old.operations + 1)
+            (outcomes_from 0 parts.now self.old.buffers)) }
+        ensures buffers { OnOk result (self.new.buffers
+            ≡ after_parts_from 0 parts.now self.old.buffers) }
+        ensures operations { OnOk result (self.new.operations ≡ self.old.operations
+            ++ map result_ok (outcomes_from 0 parts.now self.old.buffers)) }
+        ensures grows { AllGrow self.old.buffers self.new.buffers }
+    {
+        let outcomes = self.replicas.edit_parts(alloc, parts, out)?;
+        let answers = keep_outcomes(alloc, &mut self.named, outcomes)?;
+        Ok(NumberAnswers::new(answers))
+    }
+
     /// Keeps an operation that the next operation line has in it.
     pub fn keep(&mut self, alloc: Global, operation: Operation) -> Result<(), OutOfMemory>
         ensures buffers { self.new.buffers ≡ self.old.buffers }
         ensures operations { OnOk result (self.new.operations
             ≡ self.old.operations ++ Some operation ∷ []) }
+        ensures grows { AllGrow self.old.buffers self.new.buffers }
     {
         let operation = Box::new(alloc, operation)?;
         self.named.push(Named::Read(operation))?;
@@ -262,6 +294,7 @@ impl Exchange {
             ≡ with_buffer id (after_give (operation_of number self.old.operations))
             self.old.buffers) }
         ensures operations { self.new.operations ≡ self.old.operations }
+        ensures grows { AllGrow self.old.buffers self.new.buffers }
     {
         let operation = copy_of(alloc, self.operation_of(number))?;
         self.replicas.give(id, operation)
@@ -275,6 +308,7 @@ impl Exchange {
         ensures buffers { OnOk result (self.new.buffers
             ≡ with_buffer id after_reopen self.old.buffers) }
         ensures operations { self.new.operations ≡ self.old.operations }
+        ensures grows { AllGrow self.old.buffers self.new.buffers }
     {
         self.replicas.reopen(alloc, id)
     }
@@ -312,6 +346,49 @@ fn named_count(list: &[Named]) -> u64
         count += is_named(named) as u64;
     }
     count
+}
+
+/// Keeps the operations, each as that of the next operation line, or that the line has none. Returns what is said of each number.
+fn keep_outcomes(
+    alloc: Global,
+    named: &mut Vec<Named>,
+    outcomes: Vec<Result<Operation, PartAnswer>>,
+) -> Result<Vec<NumberAnswer>, OutOfMemory>
+    ensures answers { IfOk result (λ v. v.items
+        ≡ numbered (length named.old.items + 1) outcomes.items) }
+    ensures operations { OnOk result ((bs : List BufferState) → map (operation_in bs) named.new.items
+        ≡ map (operation_in bs) named.old.items ++ map result_ok outcomes.items) }
+    ensures there { (bs : List BufferState) → AreThere bs named.old.items
+        → AreThere bs named.new.items }
+{
+    let mut answers = Vec::with_capacity(alloc, outcomes.len())?;
+    for outcome in outcomes {
+        let number = named.len() as u64 + 1;
+        let (kept, answer) = name_outcome(alloc, outcome)?;
+        named.push(kept)?;
+        answers.push(NumberAnswer { number, answer })?;
+    }
+    Ok(answers)
+}
+
+/// How the operation is kept that a replica made, if it did, and what is said of it.
+fn name_outcome(
+    alloc: Global,
+    outcome: Result<Operation, PartAnswer>,
+) -> Result<(Named, PartAnswer), OutOfMemory>
+    ensures operation { IfOk result (λ p. (bs : List BufferState)
+        → operation_in bs p.0 ≡ result_ok outcome) }
+    ensures there { IfOk result (λ p. (bs : List BufferState) → IsThere bs p.0) }
+    ensures answer { IfOk result (λ p. p.1 ≡ part_answer outcome) }
+{
+    match outcome {
+        Ok(operation) => {
+            let stamp = operation.stamp();
+            let kept = Named::Read(Box::new(alloc, operation)?);
+            Ok((kept, PartAnswer::Made(stamp)))
+        }
+        Err(answer) => Ok((Named::Nothing, answer)),
+    }
 }
 
 /// A copy of the operation, if there is one. It shares the texts.

@@ -7,6 +7,7 @@
 
 mod exchange;
 mod making;
+mod more;
 mod names;
 mod packing;
 mod queries;
@@ -15,10 +16,11 @@ mod replica;
 mod replicas;
 
 pub use making::make;
+pub use more::MoreProgress;
 pub use op_model::OutOfMemory;
 pub use packing::pack;
 pub use queries::{
     Question, answer_of, find_answer, more_question_of, offset_answer, point_answer, query_line,
 };
-pub use replay::{MoreProgress, Progress, report};
+pub use replay::{Progress, report};
 pub use replica::Replica;

@@ -14,7 +14,8 @@ ghost use Rattle.session_work.specs.Queries.{answer_line, find_answer, offset_an
 ghost use Rattle.session_work.specs.declared.queries.Question.TheVariants.{OffsetOf, PointOf, StartsOf};
 
 use crate::OutOfMemory;
-use crate::replay::{MoreProgress, Progress};
+use crate::more::MoreProgress;
+use crate::replay::Progress;
 use op_model::Text;
 use rope_chunks::Rope;
 use session_lines::{
@@ -292,6 +293,13 @@ impl MoreProgress {
             MoreLine::Select { .. } => Ok(None),
             MoreLine::Share { .. } => Ok(None),
             MoreLine::Selected { .. } => Ok(None),
+            MoreLine::Fold { .. } => Ok(None),
+            MoreLine::Unfold { .. } => Ok(None),
+            MoreLine::Folded { .. } => Ok(None),
+            MoreLine::Display { .. } => Ok(None),
+            MoreLine::Excerpt { .. } => Ok(None),
+            MoreLine::Multi { .. } => Ok(None),
+            MoreLine::Medit { .. } => Ok(None),
         }
     }
 }

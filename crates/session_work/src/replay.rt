@@ -1,33 +1,35 @@
 //! A session worked line by line, and its report.
-ghost use Rattle.std.specs.Prelude.{◌≡◌, ◌≤◌, ◌+◌, ◌^◌, ◌++◌, ◌==◌, [], ◌∷◌, is_some, length, map, ℕ, Some, IfOk, OnOk};
+ghost use Rattle.std.specs.Prelude.{◌≡◌, ◌≤◌, ◌<◌, ◌+◌, ◌^◌, ◌++◌, ◌==◌, [], ◌∷◌, is_some, length, map, ℕ, Some, IfOk, OnOk};
 ghost use Rattle.std.specs.Option.{option_copied, option_map, option_to_list};
 ghost use Rattle.std.specs.List.{All, count_by, flat_map, position};
 ghost use Rattle.op_model.specs.Domains.{IsReplica};
 ghost use Rattle.op_model.specs.Operations.{stamp_of};
 ghost use Rattle.session_lines.specs.Report.{report_text};
-ghost use Rattle.session_lines.specs.Session.{IsSession};
 ghost use Rattle.session_lines.specs.declared.report.Report.{Report};
 ghost use Rattle.session_lines.specs.declared.session.SessionLine.{SessionLine};
-ghost use Rattle.session_more.specs.Decoding.{headed};
 ghost use Rattle.session_more.specs.Reports.{more_report_text};
 ghost use Rattle.session_more.specs.declared.session.MoreLine.{MoreLine};
+ghost use Rattle.session_work.specs.Later.{AllGrow};
 ghost use Rattle.session_work.specs.Work.{at_end, buffer_of, events, next_number, with_operation_line, first_buffer, step, session_limit, histories};
+ghost use Rattle.session_work.specs.Room.{HasRoom};
 ghost use Rattle.session_work.specs.Queries.{plain_line};
 ghost use Rattle.session_work.specs.MoreQueries.{more_queries_from, more_query_at, more_report_of};
-ghost use Rattle.session_work.specs.MoreWork.{after_all_more, all_more_events, more_events, more_opening, more_step};
+ghost use Rattle.session_work.specs.MoreWork.{IsMoreSession, after_all_more, all_more_events};
+ghost use Rattle.session_work.specs.Parts.{medit_answer, parts_of, settled_from, with_parts};
 ghost use Rattle.session_work.specs.Making.{text_len};
 ghost use Rattle.session_work.specs.Names.{by_bytes};
 ghost use Rattle.session_work.specs.Working.{more_state_of, state_of};
 ghost use Rattle.text_buffer.specs.Buffer.{BufferState, base_under};
 
 use crate::exchange::Exchange;
+use crate::more::MoreProgress;
 use crate::replica::Replica;
 use crate::{OutOfMemory, names};
 use lamport_clock::Version;
 use op_model::{Anchor, Bias, Endings, Operation, Pieces, Text};
+use session_excerpts::{SplitAnswer, SplitParts};
 use session_lines::{Numbers, Report, SessionLine, write_line};
-use session_more::{MoreLine, MoreQueue, MoreReport, MoreSession, TextRanges};
-use session_selections::SessionSelections;
+use session_more::{MeditAnswer, MoreLine, MoreQueue, MoreSession};
 use std::alloc::Global;
 use std::collections::BTreeMap;
 use text_buffer::Snapshot;
@@ -64,6 +66,7 @@ impl Progress {
             ++ report_text (events (SessionLine.Edit id pieces.now) (state_of self.old))) }
         ensures state { OnOk result (state_of self.new
             ≡ step (SessionLine.Edit id pieces.now) (state_of self.old)) }
+        ensures grows { AllGrow self.old.exchange.buffers self.new.exchange.buffers }
     {
         self.exchange.edit(alloc, id, pieces, &mut self.report)
     }
@@ -75,6 +78,7 @@ impl Progress {
             ++ report_text (events (SessionLine.Undo id numbers.now) (state_of self.old))) }
         ensures state { OnOk result (state_of self.new
             ≡ step (SessionLine.Undo id numbers.now) (state_of self.old)) }
+        ensures grows { AllGrow self.old.exchange.buffers self.new.exchange.buffers }
     {
         self.exchange
             .undo(alloc, id, numbers.as_slice(), &mut self.report)
@@ -88,6 +92,7 @@ impl Progress {
             ∷ [])) }
         ensures state { OnOk result (state_of self.new
             ≡ with_operation_line self.old.exchange.buffers (Some operation) (state_of self.old)) }
+        ensures grows { AllGrow self.old.exchange.buffers self.new.exchange.buffers }
     {
         let number = self.exchange.next_number();
         let stamp = operation.stamp();
@@ -103,6 +108,7 @@ impl Progress {
             ++ report_text (events (SessionLine.Give id number) (state_of self.old))) }
         ensures state { OnOk result (state_of self.new
             ≡ step (SessionLine.Give id number) (state_of self.old)) }
+        ensures grows { AllGrow self.old.exchange.buffers self.new.exchange.buffers }
     {
         let Some(answer) = self.exchange.give(alloc, id, number)? else {
             return Ok(());
@@ -117,12 +123,14 @@ impl Progress {
     }
 
     /// Works a line that shows a text.
+    #[tactic(auto, using(crate::proofs::Growth::all_themselves))]
     fn work_text(&mut self, alloc: Global, id: u16) -> Result<(), OutOfMemory>
         ensures report { OnOk result (self.new.report.items
             ≡ self.old.report.items
             ++ report_text (events (SessionLine.Text id) (state_of self.old))) }
         ensures state { OnOk result (state_of self.new
             ≡ step (SessionLine.Text id) (state_of self.old)) }
+        ensures grows { AllGrow self.old.exchange.buffers self.new.exchange.buffers }
     {
         let Some(replica) = self.exchange.find(id) else {
             return Ok(());
@@ -132,6 +140,7 @@ impl Progress {
     }
 
     /// Works a line that makes an anchor.
+    #[tactic(auto, using(crate::proofs::Growth::all_themselves))]
     fn work_anchor(
         &mut self,
         alloc: Global,
@@ -146,6 +155,7 @@ impl Progress {
             (state_of self.old))) }
         ensures state { OnOk result (state_of self.new
             ≡ step (SessionLine.Anchor id name offset bias) (state_of self.old)) }
+        ensures grows { AllGrow self.old.exchange.buffers self.new.exchange.buffers }
     {
         let Some(snapshot) = self.snapshot_of(id)? else {
             return Ok(());
@@ -158,12 +168,14 @@ impl Progress {
     }
 
     /// Works a line that asks where an anchor is.
+    #[tactic(auto, using(crate::proofs::Growth::all_themselves))]
     fn work_where(&mut self, alloc: Global, id: u16, name: Text) -> Result<(), OutOfMemory>
         ensures report { OnOk result (self.new.report.items
             ≡ self.old.report.items
             ++ report_text (events (SessionLine.Where id name) (state_of self.old))) }
         ensures state { OnOk result (state_of self.new
             ≡ step (SessionLine.Where id name) (state_of self.old)) }
+        ensures grows { AllGrow self.old.exchange.buffers self.new.exchange.buffers }
     {
         let Some(snapshot) = self.snapshot_of(id)? else {
             return Ok(());
@@ -180,12 +192,14 @@ impl Progress {
     }
 
     /// Works a line that keeps a version.
+    #[tactic(auto, using(crate::proofs::Growth::all_themselves))]
     fn work_mark(&mut self, alloc: Global, id: u16, name: Text) -> Result<(), OutOfMemory>
         ensures report { OnOk result (self.new.report.items
             ≡ self.old.report.items
             ++ report_text (events (SessionLine.Mark id name) (state_of self.old))) }
         ensures state { OnOk result (state_of self.new
             ≡ step (SessionLine.Mark id name) (state_of self.old)) }
+        ensures grows { AllGrow self.old.exchange.buffers self.new.exchange.buffers }
     {
         let Some(snapshot) = self.snapshot_of(id)? else {
             return Ok(());
@@ -218,12 +232,14 @@ impl Progress {
     }
 
     /// Works a line that asks what changed since a version.
+    #[tactic(auto, using(crate::proofs::Growth::all_themselves))]
     fn work_since(&mut self, alloc: Global, id: u16, name: Text) -> Result<(), OutOfMemory>
         ensures report { OnOk result (self.new.report.items
             ≡ self.old.report.items
             ++ report_text (events (SessionLine.Since id name) (state_of self.old))) }
         ensures state { OnOk result (state_of self.new
             ≡ step (SessionLine.Since id name) (state_of self.old)) }
+        ensures grows { AllGrow self.old.exchange.buffers self.new.exchange.buffers }
     {
         let Some(report) = self.since_of(id, name)? else {
             return Ok(());
@@ -239,6 +255,7 @@ impl Progress {
             ++ report_text (events (SessionLine.Reopen id) (state_of self.old))) }
         ensures state { OnOk result (state_of self.new
             ≡ step (SessionLine.Reopen id) (state_of self.old)) }
+        ensures grows { AllGrow self.old.exchange.buffers self.new.exchange.buffers }
     {
         let Some(count) = self.exchange.reopen(alloc, id)? else {
             return Ok(());
@@ -248,11 +265,47 @@ impl Progress {
         Ok(())
     }
 
+    /// Edits the text of each replica by its pieces of an edit of excerpts, if it has some, and settles it. Each replica takes a number of
+    /// operation lines, even if the edit is refused. Reports the settling alone, to `out`, and returns what is said of the edit.
+    pub fn work_split(
+        &mut self,
+        alloc: Global,
+        split: Option<SplitAnswer>,
+        out: &mut Vec<u8>,
+    ) -> Result<Option<MeditAnswer>, OutOfMemory>
+        requires { length self.old.exchange.buffers < 2 ^ 32 }
+        ensures answer { IfOk result (λ a. a
+            ≡ medit_answer (next_number (state_of self.old)) split self.old.exchange.buffers) }
+        ensures settled { OnOk result (out.new.items ≡ out.old.items
+            ++ report_text (settled_from 0 (parts_of split) self.old.exchange.buffers)) }
+        ensures state { OnOk result (state_of self.new
+            ≡ with_parts (parts_of split) (state_of self.old)) }
+        ensures report { self.new.report ≡ self.old.report }
+        ensures grows { AllGrow self.old.exchange.buffers self.new.exchange.buffers }
+    {
+        let none = SplitParts::new(Vec::new(alloc));
+        match split {
+            Some(SplitAnswer::Parts(parts)) => {
+                let numbers = self.exchange.edit_parts(alloc, &parts, out)?;
+                Ok(Some(MeditAnswer::Numbers(numbers)))
+            }
+            Some(SplitAnswer::Refused(fault)) => {
+                let _numbers = self.exchange.edit_parts(alloc, &none, out)?;
+                Ok(Some(MeditAnswer::Refused(fault)))
+            }
+            None => {
+                let _numbers = self.exchange.edit_parts(alloc, &none, out)?;
+                Ok(None)
+            }
+        }
+    }
+
     /// Works a line. An operation or a name in it is moved to where it is kept or reported.
     pub fn work_line(&mut self, alloc: Global, line: SessionLine) -> Result<(), OutOfMemory>
         ensures report { OnOk result (self.new.report.items
             ≡ self.old.report.items ++ report_text (events line (state_of self.old))) }
         ensures state { OnOk result (state_of self.new ≡ step line (state_of self.old)) }
+        ensures grows { AllGrow self.old.exchange.buffers self.new.exchange.buffers }
     {
         match line {
             SessionLine::Op(edit) => self.work_operation(alloc, Operation::Edit(edit)),
@@ -271,11 +324,12 @@ impl Progress {
     }
 
     /// Works a line that its caller keeps: an operation or a name in it is copied.
-    #[tactic(auto, using(session_lines::proofs::Reports::nothing_written))]
+    #[tactic(auto, using(crate::proofs::Growth::all_themselves, session_lines::proofs::Reports::nothing_written))]
     pub fn work_copy(&mut self, alloc: Global, line: &SessionLine) -> Result<(), OutOfMemory>
         ensures report { OnOk result (self.new.report.items
             ≡ self.old.report.items ++ report_text (events line.now (state_of self.old))) }
         ensures state { OnOk result (state_of self.new ≡ step line.now (state_of self.old)) }
+        ensures grows { AllGrow self.old.exchange.buffers self.new.exchange.buffers }
     {
         match line {
             SessionLine::Edit { replica, pieces } => self.work_edit(alloc, *replica, pieces)?,
@@ -414,124 +468,6 @@ fn write_ends(alloc: Global, replicas: &[Replica], out: &mut Vec<u8>) -> Result<
     Ok(())
 }
 
-/// A session as far as it was worked, with what its lines of further kinds came to.
-#[derive(Drop)]
-pub struct MoreProgress {
-    /// What its lines of `session_lines` came to, and the lines of the events.
-    pub plain: Progress,
-    /// What its replicas have selected.
-    pub selections: SessionSelections,
-}
-
-impl MoreProgress {
-    /// A session before its first line.
-    pub fn new(alloc: Global, session: &MoreSession) -> Result<MoreProgress, OutOfMemory>
-        requires { IsSession session_limit (headed session.now) }
-        ensures state { IfOk result (λ p. more_state_of p ≡ more_opening session.now) }
-        ensures report { IfOk result (λ p. p.plain.report.items ≡ []) }
-    {
-        let plain = Progress::new(
-            alloc,
-            session.endings(),
-            session.replicas.as_slice(),
-            session.base.as_str(),
-        )?;
-        let selections = SessionSelections::new(alloc, session.replicas.as_slice())?;
-        Ok(MoreProgress { plain, selections })
-    }
-
-    /// Works a line that selects ranges.
-    fn work_select(
-        &mut self,
-        alloc: Global,
-        id: u16,
-        name: Text,
-        ranges: &TextRanges,
-    ) -> Result<(), OutOfMemory>
-        ensures report { OnOk result (self.new.plain.report.items
-            ≡ self.old.plain.report.items
-            ++ more_report_text (more_events (MoreLine.Select id name ranges.now)
-            (more_state_of self.old))) }
-        ensures state { OnOk result (more_state_of self.new
-            ≡ more_step (MoreLine.Select id name ranges.now) (more_state_of self.old)) }
-    {
-        let Some(snapshot) = self.plain.snapshot_of(id)? else {
-            return Ok(());
-        };
-        let report = self
-            .selections
-            .select(alloc, id, name, &snapshot, ranges.as_slice())?;
-        drop(snapshot);
-        write_event(alloc, report, &mut self.plain.report)
-    }
-
-    /// Works a line that gives a replica the selections under a name.
-    fn work_share(&mut self, alloc: Global, id: u16, name: Text) -> Result<(), OutOfMemory>
-        ensures report { OnOk result (self.new.plain.report.items
-            ≡ self.old.plain.report.items
-            ++ more_report_text (more_events (MoreLine.Share id name)
-            (more_state_of self.old))) }
-        ensures state { OnOk result (more_state_of self.new
-            ≡ more_step (MoreLine.Share id name) (more_state_of self.old)) }
-    {
-        let report = self.selections.share(alloc, id, name)?;
-        write_event(alloc, report, &mut self.plain.report)
-    }
-
-    /// Works a line that asks where an author's selections are.
-    fn work_selected(&mut self, alloc: Global, id: u16, author: u16) -> Result<(), OutOfMemory>
-        ensures report { OnOk result (self.new.plain.report.items
-            ≡ self.old.plain.report.items
-            ++ more_report_text (more_events (MoreLine.Selected id author)
-            (more_state_of self.old))) }
-        ensures state { OnOk result (more_state_of self.new
-            ≡ more_step (MoreLine.Selected id author) (more_state_of self.old)) }
-    {
-        let Some(snapshot) = self.plain.snapshot_of(id)? else {
-            return Ok(());
-        };
-        let report = self.selections.selected(alloc, id, author, &snapshot)?;
-        drop(snapshot);
-        write_event(alloc, report, &mut self.plain.report)
-    }
-
-    /// Works a line. An operation or a name in it is moved to where it is kept or reported.
-    pub fn work_line(&mut self, alloc: Global, line: MoreLine) -> Result<(), OutOfMemory>
-        ensures report { OnOk result (self.new.plain.report.items
-            ≡ self.old.plain.report.items
-            ++ more_report_text (more_events line (more_state_of self.old))) }
-        ensures state { OnOk result (more_state_of self.new
-            ≡ more_step line (more_state_of self.old)) }
-    {
-        match line {
-            MoreLine::Plain(line) => self.plain.work_line(alloc, line),
-            MoreLine::Select {
-                replica,
-                name,
-                ranges,
-            } => self.work_select(alloc, replica, name, &ranges),
-            MoreLine::Share { replica, name } => self.work_share(alloc, replica, name),
-            MoreLine::Selected { replica, author } => self.work_selected(alloc, replica, author),
-        }
-    }
-}
-
-/// Writes the line of an event, if there is one.
-#[tactic(auto, using(crate::proofs::MoreReports::nothing_written, crate::proofs::MoreReports::one_written))]
-fn write_event(
-    alloc: Global,
-    report: Option<MoreReport>,
-    out: &mut Vec<u8>,
-) -> Result<(), OutOfMemory>
-    ensures { OnOk result (out.new.items
-        ≡ out.old.items ++ more_report_text (option_to_list report)) }
-{
-    if let Some(report) = report {
-        session_more::write_line(alloc, out, &report)?;
-    }
-    Ok(())
-}
-
 /// Answers the line on the spot, where it is a query.
 fn answer_if_query(
     progress: &MoreProgress,
@@ -557,6 +493,7 @@ fn work_lines(
     mut lines: MoreQueue,
     answers: &mut Vec<Report>,
 ) -> Result<(), OutOfMemory>
+    requires { HasRoom (length lines) (more_state_of progress.old) }
     ensures report { OnOk result (progress.new.plain.report.items
         ≡ progress.old.plain.report.items
         ++ more_report_text (all_more_events lines (more_state_of progress.old))) }
@@ -576,7 +513,7 @@ fn work_lines(
 
 /// The text of a session's report.
 pub fn report(alloc: Global, session: MoreSession) -> Result<Vec<u8>, OutOfMemory>
-    requires { IsSession session_limit (headed session) }
+    requires { IsMoreSession session }
     ensures { IfOk result (λ v. v.items ≡ more_report_text (more_report_of session)) }
 {
     let mut progress = MoreProgress::new(alloc, &session)?;
@@ -587,5 +524,5 @@ pub fn report(alloc: Global, session: MoreSession) -> Result<Vec<u8>, OutOfMemor
         session.lines.into_queue(),
         &mut answers,
     )?;
-    progress.plain.finish(alloc, answers.as_slice())
+    progress.finish(alloc, answers.as_slice())
 }

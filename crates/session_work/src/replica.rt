@@ -12,6 +12,7 @@ ghost use Rattle.text_buffer.specs.Document.{IsFront};
 ghost use Rattle.text_buffer.specs.Outcomes.{pair_of};
 ghost use Rattle.session_lines.specs.declared.report.Report.TheVariants.{Unnamed, UndoRefused};
 ghost use Rattle.session_work.specs.Exchange.{undo_outcome_of};
+ghost use Rattle.session_work.specs.Parts.{after_part, part_outcome, part_settled};
 ghost use Rattle.session_work.specs.Work.{after_give, after_outcome, after_reopen, applied_count, at_end, counts_report, edit_outcome, give_answer, first_buffer, outcome_reports, refused_report, settled_reports, text_report, session_limit};
 
 use crate::OutOfMemory;
@@ -19,6 +20,7 @@ use applied_ops::Applied;
 use lamport_clock::Lamport;
 use op_model::{EditFault, Limits, OpFault, Operation, Piece, Pieces, Text, UndoFault};
 use session_lines::{GiveAnswer, Report, TextHead, write_line, write_text};
+use session_more::PartAnswer;
 use std::alloc::Global;
 use std::marker::Model;
 use sum_tree::SumTree;
@@ -143,6 +145,36 @@ impl Replica {
         write_line(alloc, out, &Report::Made { number, stamp })?;
         self.settle(alloc, out)?;
         Ok(Some(operation))
+    }
+
+    /// Edits its text by the pieces that it has of an edit of excerpts, if it has some, and settles. Reports the settling alone. Returns
+    /// the operation, or what is said in its place.
+    pub fn edit_part(
+        &mut self,
+        alloc: Global,
+        pieces: Option<&Pieces>,
+        settled: &mut Vec<u8>,
+    ) -> Result<Result<Operation, PartAnswer>, OutOfMemory>
+        ensures report { OnOk result (settled.new.items ≡ settled.old.items ++ report_text
+            (part_settled (part_outcome (option_copied pieces.entry) self.old) self.old)) }
+        ensures after { OnOk result (self.new
+            ≡ after_part (part_outcome (option_copied pieces.entry) self.old) self.old) }
+        ensures id { self.new.replica ≡ self.old.replica }
+        ensures grows { IsFront self.old.history self.new.history }
+        ensures outcome { IfOk result
+            (λ o. o ≡ part_outcome (option_copied pieces.entry) self.old) }
+    {
+        let Some(pieces) = pieces else {
+            return Ok(Err(PartAnswer::Nothing));
+        };
+        match self.buffer.edit_uncounted(pieces.as_slice()) {
+            Ok(operation) => {
+                self.settle(alloc, settled)?;
+                Ok(Ok(operation))
+            }
+            Err(EditFault::OutOfMemory) => Err(OutOfMemory),
+            Err(fault) => Ok(Err(PartAnswer::Refused(fault))),
+        }
     }
 
     /// Settles, and reports it where that applied any.

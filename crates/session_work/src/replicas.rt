@@ -1,6 +1,6 @@
 //! The replicas of a session, which are found by their ids.
 ghost use Rattle.op_model.specs.Domains.{IsReplica};
-ghost use Rattle.std.specs.Prelude.{◌≡◌, ◌⊎◌, ◌≤◌, ◌<◌, ◌++◌, ◌==◌, ℕ, None, Some, get_or, length, map, All, IfErr, IfOk, OnOk};
+ghost use Rattle.std.specs.Prelude.{◌≡◌, ◌⊎◌, ◌≤◌, ◌<◌, ◌^◌, ◌++◌, ◌==◌, ℕ, None, Some, get_or, length, map, All, IfErr, IfOk, OnOk};
 ghost use Rattle.std.specs.Option.{option_and_then, option_copied, option_map};
 ghost use Rattle.std.specs.Result.{result_ok};
 ghost use Rattle.std.specs.List.{position};
@@ -10,13 +10,16 @@ ghost use Rattle.text_buffer.specs.Buffer.{base_fault, base_under};
 ghost use Rattle.text_buffer.specs.declared.faults.NewFault.{NewFault};
 ghost use Rattle.session_work.specs.Exchange.{undo_outcome_of};
 ghost use Rattle.session_work.specs.Later.{AllGrow};
+ghost use Rattle.session_work.specs.Parts.{after_parts_from, outcomes_from, settled_from};
 ghost use Rattle.session_work.specs.Work.{after_give, after_outcome, after_reopen, applied_count, buffer_of, edit_outcome, give_answer, first_buffer, outcome_reports, reports_at, with_buffer, session_limit};
 
 use crate::OutOfMemory;
 use crate::replica::Replica;
 use lamport_clock::Lamport;
 use op_model::{LAST_REPLICA, Operation, Pieces};
+use session_excerpts::SplitParts;
 use session_lines::GiveAnswer;
+use session_more::PartAnswer;
 use std::alloc::Global;
 use std::marker::Model;
 use text_buffer::{Base, Endings, NewFault};
@@ -146,6 +149,24 @@ impl Replicas {
         self.list[index].undo(alloc, number, unnamed, edits, out)
     }
 
+    /// Edits the text of each replica by its pieces of an edit of excerpts, if it has some, and settles it. Reports the settling alone.
+    /// Returns for each replica the operation, or what is said in its place.
+    pub fn edit_parts(
+        &mut self,
+        alloc: Global,
+        parts: &SplitParts,
+        out: &mut Vec<u8>,
+    ) -> Result<Vec<Result<Operation, PartAnswer>>, OutOfMemory>
+        requires { length self.old < 2 ^ 32 }
+        ensures report { OnOk result (out.new.items
+            ≡ out.old.items ++ report_text (settled_from 0 parts.now self.old)) }
+        ensures after { OnOk result (self.new ≡ after_parts_from 0 parts.now self.old) }
+        ensures outcomes { IfOk result (λ v. v.items ≡ outcomes_from 0 parts.now self.old) }
+        ensures grows { AllGrow self.old self.new }
+    {
+        edit_each(&mut self.list, alloc, parts, out)
+    }
+
     /// Gives the operation with that number, if there is one, to the replica with that id, if there is one. Returns its answer.
     pub fn give(
         &mut self,
@@ -176,6 +197,29 @@ impl Replicas {
         };
         Ok(Some(self.list[index].reopen(alloc)?))
     }
+}
+
+/// Edits the text of each replica by its pieces of an edit of excerpts, if it has some, and settles it. Reports the settling alone.
+fn edit_each(
+    replicas: &mut [Replica],
+    alloc: Global,
+    parts: &SplitParts,
+    out: &mut Vec<u8>,
+) -> Result<Vec<Result<Operation, PartAnswer>>, OutOfMemory>
+    requires { length replicas.old < 2 ^ 32 }
+    ensures report { OnOk result (out.new.items
+        ≡ out.old.items ++ report_text (settled_from 0 parts.now replicas.old)) }
+    ensures after { OnOk result (replicas.new ≡ after_parts_from 0 parts.now replicas.old) }
+    ensures outcomes { IfOk result (λ v. v.items ≡ outcomes_from 0 parts.now replicas.old) }
+    ensures grows { AllGrow replicas.old replicas.new }
+{
+    let mut outcomes = Vec::with_capacity(alloc, replicas.len())?;
+    for index in 0..replicas.len() {
+        let pieces = parts.pieces_of(index as u32);
+        let outcome = replicas[index].edit_part(alloc, pieces, out)?;
+        outcomes.push(outcome)?;
+    }
+    Ok(outcomes)
 }
 
 /// The index of the replica with that id, by a walk along them.

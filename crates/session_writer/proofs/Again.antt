@@ -19,7 +19,7 @@ use Rattle.session_more.specs.Forms.{further_of_value}
 use Rattle.session_more.specs.Lines.{is_known, is_named, more_taken_in}
 use Rattle.session_more.specs.State.{MoreState}
 use Rattle.session_more.specs.declared.session.MoreLine.{MoreLine}
-use Rattle.session_more.specs.declared.session.MoreLine.TheVariants.{Plain, Select, Share, Selected}
+use Rattle.session_more.specs.declared.session.MoreLine.TheVariants.{Plain, Select, Share, Selected, Fold, Unfold, Folded, Display, Excerpt, Multi, Medit}
 use Rattle.session_more.proofs.Headers.{header_stays}
 
 -- ---- a form of any version is one of version 2
@@ -80,19 +80,33 @@ HaveValues (l ∷ ls) (t ∷ ts) = (value_of t ≡ value_of l) × HaveValues ls 
 
 -- the state with version v, where the session is not read to be migrated
 abbrev pub restated : ℕ → MoreState → MoreState
-restated v s = record { plain = record s.plain { version = v; migrate = false }; selects = s.selects }
+restated v s = record { plain = record s.plain { version = v; migrate = false }; selects = s.selects; excerpts = s.excerpts }
 
 taken_again : (v : ℕ) (l : MoreLine) (s : MoreState) → more_taken_in l (restated v s) ≡ restated v (more_taken_in l s)
 taken_again v (Plain l) s = refl
 taken_again v (Select r n ps) s = refl
 taken_again v (Share r n) s = refl
 taken_again v (Selected r a) s = refl
+taken_again v (Fold r b e) s = refl
+taken_again v (Unfold r b e) s = refl
+taken_again v (Folded r) s = refl
+taken_again v (Display r o) s = refl
+taken_again v (Excerpt n r b e) s = refl
+taken_again v (Multi n) s = refl
+taken_again v (Medit n ps) s = refl
 
 is_named_again : (v : ℕ) (l : MoreLine) (s : MoreState) → is_named (restated v s) l ≡ is_named s l
 is_named_again v (Plain l) s = refl
 is_named_again v (Select r n ps) s = refl
 is_named_again v (Share r n) s = refl
 is_named_again v (Selected r a) s = refl
+is_named_again v (Fold r b e) s = refl
+is_named_again v (Unfold r b e) s = refl
+is_named_again v (Folded r) s = refl
+is_named_again v (Display r o) s = refl
+is_named_again v (Excerpt n r b e) s = refl
+is_named_again v (Multi n) s = refl
+is_named_again v (Medit n ps) s = refl
 
 module _ (v : ℕ) (s : MoreState) where
   form_again : (o : Option MoreLine) (y : MoreLine) → form_after s o ≡ Ok y → form_after (restated v s) o ≡ Ok y

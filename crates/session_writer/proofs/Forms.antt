@@ -10,7 +10,7 @@ use Rattle.session_lines.specs.Json.{is_text, list_of, members_of, whole_number}
 use Rattle.session_lines.specs.Parts.{all_of, bias_of_value, clock_value, count_from, count_of_value, counts_of_value, entry_from, entry_of_value, id_of_value, numbers_of_value, piece_from, piece_of_value, pieces_of_value, stamp_from, stamp_of_value, stamp_with, version_from, version_of_value, version_with}
 use Rattle.session_lines.specs.Forms.{anchor_from, asking_form, edit_from, find_from, form_of, give_from, later_form, line_from, line_of_value, mark_from, name_from, offset_from, op_from, point_from, reopen_from, since_from, text_from, undo_from, uop_from, where_from}
 use Rattle.session_lines.specs.declared.session.SessionLine.{SessionLine}
-use Rattle.session_more.specs.Forms.{further_form, further_from, further_of_value, range_from, range_of_value, ranges_of_value, select_from, selected_from, share_from}
+use Rattle.session_more.specs.Forms.{display_from, excerpt_form, excerpt_from, fold_form, fold_from, folded_from, further_form, further_from, further_of_value, medit_from, multi_from, range_from, range_of_value, ranges_of_value, select_from, selected_from, share_from, unfold_from}
 use Rattle.session_more.specs.declared.session.MoreLine.{MoreLine}
 use Rattle.session_writer.specs.Readable.{AreForms, IsForm}
 
@@ -284,6 +284,51 @@ selected_members (r ∷ []) = tt
 selected_members (r ∷ a ∷ []) = two (IsForm r) (IsForm a) (id_of_value r) (id_of_value a) _ (id_form r) (id_form a)
 selected_members (r ∷ a ∷ d ∷ ds) = tt
 
+fold_members : (ds : List Data) → OnSome (AllForms ds) (fold_from ds)
+fold_members [] = tt
+fold_members (r ∷ []) = tt
+fold_members (r ∷ s ∷ []) = tt
+fold_members (r ∷ s ∷ e ∷ []) = three (IsForm r) (IsForm s) (IsForm e) (id_of_value r) (whole_number s) (whole_number e) _ (id_form r) (number_form s) (number_form e)
+fold_members (r ∷ s ∷ e ∷ d ∷ ds) = tt
+
+unfold_members : (ds : List Data) → OnSome (AllForms ds) (unfold_from ds)
+unfold_members [] = tt
+unfold_members (r ∷ []) = tt
+unfold_members (r ∷ s ∷ []) = tt
+unfold_members (r ∷ s ∷ e ∷ []) = three (IsForm r) (IsForm s) (IsForm e) (id_of_value r) (whole_number s) (whole_number e) _ (id_form r) (number_form s) (number_form e)
+unfold_members (r ∷ s ∷ e ∷ d ∷ ds) = tt
+
+folded_members : (ds : List Data) → OnSome (AllForms ds) (folded_from ds)
+folded_members [] = tt
+folded_members (r ∷ []) = one (IsForm r) (id_of_value r) _ (id_form r)
+folded_members (r ∷ d ∷ ds) = tt
+
+display_members : (ds : List Data) → OnSome (AllForms ds) (display_from ds)
+display_members [] = tt
+display_members (r ∷ []) = tt
+display_members (r ∷ o ∷ []) = two (IsForm r) (IsForm o) (id_of_value r) (whole_number o) _ (id_form r) (number_form o)
+display_members (r ∷ o ∷ d ∷ ds) = tt
+
+excerpt_members : (ds : List Data) → OnSome (AllForms ds) (excerpt_from ds)
+excerpt_members [] = tt
+excerpt_members (t ∷ []) = tt
+excerpt_members (t ∷ r ∷ []) = tt
+excerpt_members (t ∷ r ∷ s ∷ []) = tt
+excerpt_members (t ∷ r ∷ s ∷ e ∷ []) =
+    four (IsForm t) (IsForm r) (IsForm s) (IsForm e) (as_str t) (id_of_value r) (whole_number s) (whole_number e) _ (text_form t) (id_form r) (number_form s) (number_form e)
+excerpt_members (t ∷ r ∷ s ∷ e ∷ d ∷ ds) = tt
+
+multi_members : (ds : List Data) → OnSome (AllForms ds) (multi_from ds)
+multi_members [] = tt
+multi_members (t ∷ []) = one (IsForm t) (as_str t) _ (text_form t)
+multi_members (t ∷ d ∷ ds) = tt
+
+medit_members : (ds : List Data) → OnSome (AllForms ds) (medit_from ds)
+medit_members [] = tt
+medit_members (t ∷ []) = tt
+medit_members (t ∷ ps ∷ []) = two (IsForm t) (IsForm ps) (as_str t) (pieces_of_value ps) _ (text_form t) (pieces_form ps)
+medit_members (t ∷ ps ∷ d ∷ ds) = tt
+
 -- ---- a line, by its word
 
 abbrev OnLine : {A : Type 0} → Data → List Data → Option A → Type 0
@@ -340,11 +385,24 @@ formed v d l e = subst (OnSome (IsForm d)) e (line_form v d)
 
 -- ---- a line of a further form
 
+excerpt_line : (w : Data) (ds : List Data) → OnLine w ds (excerpt_form w ds)
+excerpt_line w ds =
+    worded (codes "excerpt") w ds (excerpt_from ds) _ (excerpt_members ds)
+    (worded (codes "multi") w ds (multi_from ds) _ (multi_members ds)
+    (worded (codes "medit") w ds (medit_from ds) None (medit_members ds) tt))
+
+fold_line : (w : Data) (ds : List Data) → OnLine w ds (fold_form w ds)
+fold_line w ds =
+    worded (codes "fold") w ds (fold_from ds) _ (fold_members ds)
+    (worded (codes "unfold") w ds (unfold_from ds) _ (unfold_members ds)
+    (worded (codes "folded") w ds (folded_from ds) _ (folded_members ds)
+    (worded (codes "display") w ds (display_from ds) (excerpt_form w ds) (display_members ds) (excerpt_line w ds))))
+
 further_line : (w : Data) (ds : List Data) → OnLine w ds (further_form w ds)
 further_line w ds =
     worded (codes "select") w ds (select_from ds) _ (select_members ds)
     (worded (codes "share") w ds (share_from ds) _ (mapped (AllForms ds) (name_from ds) _ (name_members ds))
-    (worded (codes "selected") w ds (selected_from ds) None (selected_members ds) tt))
+    (worded (codes "selected") w ds (selected_from ds) (fold_form w ds) (selected_members ds) (fold_line w ds)))
 
 further_members : (ds : List Data) → OnSome (AllForms ds) (further_from ds)
 further_members [] = tt

@@ -7,8 +7,8 @@ use crate::OutOfMemory;
 use json::Writer;
 use std::alloc::Global;
 
-/// The header of version 2 over a base and the ids of replicas, without its line feed, in a vector with room for this many bytes.
-/// Linear in the base.
+/// The header of version 2 over a base and the ids of replicas, without its line feed, in a vector with room for this
+/// many bytes. Linear in the base.
 ///
 /// # Errors
 ///

@@ -22,7 +22,8 @@ fn push_line(alloc: Global, out: &mut Vec<u8>, line: &[u8]) -> Result<(), OutOfM
     Ok(())
 }
 
-/// Writes the lines of a text, each as the compact text of its value. Linear in the text, and each line is read for itself.
+/// Writes the lines of a text, each as the compact text of its value. Linear in the text, and each line is read for
+/// itself.
 ///
 /// # Errors
 ///

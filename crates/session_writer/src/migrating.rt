@@ -26,14 +26,15 @@ fn migrated(alloc: Global, input: &[u8], session: MoreSession) -> Result<Vec<u8>
     Ok(out)
 }
 
-/// The text of a session, which the bytes are, as one of version 2: its header with a 2, and each line as the compact text of its
-/// value, all with a line feed. It is a session with the same base, ids and lines, and it is the same for a session of version 2 that
-/// was written so. Linear in the bytes. It takes as much memory as the session, and then as the text.
+/// The text of a session, which the bytes are, as one of version 2: its header with a 2, and each line as the compact
+/// text of its value, all with a line feed. It is a session with the same base, ids and lines, and it is the same for
+/// a session of version 2 that was written so. Linear in the bytes. It takes as much memory as the session, and then
+/// as the text.
 ///
 /// # Errors
 ///
-/// Those of `decode` for a session that is to be migrated: `Lines`, and `Bad` with `Cr` after every other word. `OutOfMemory` only where
-/// there is a line, and not too many.
+/// Those of `decode` for a session that is to be migrated: `Lines`, and `Bad` with `Cr` after every other word.
+/// `OutOfMemory` only where there is a line, and not too many.
 pub fn migrate(alloc: Global, input: &[u8]) -> Result<Vec<u8>, DecodeFault>
     ensures ok { IfOk result (λ v. (s : MoreSession) × (more_session_of_text true input.now ≡ Ok s)
         × IsMigrated s input.now v.items) }

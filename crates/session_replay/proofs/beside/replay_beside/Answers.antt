@@ -1,15 +1,13 @@
-use Rattle.std.proofs.Common.{refl, ap, ◌∙◌}
+use Rattle.std.proofs.Common.{refl, ◌∙◌}
 use Rattle.std.proofs.lemmas.Result.{IfOk-weaker}
-use Rattle.session_work.specs.MoreWork.{MoreState}
 use Rattle.session_replay.proofs.Opening.{are_past, can_edit, is_report}
 use Rattle.session_replay.proofs.beside.replay_beside.Goals as goal
 
 pub edit_beside-requires-after_bounds : goal.edit_beside-requires-after_bounds
 edit_beside-requires-after_bounds g c κs within =
     let s = c.args.session in
-    let start = ap (λ (u : MoreState). u.plain.buffers) c.in_ok-progress.ensures.state in
     let made = c.in_ok-dispatcher.ensures in
-    can_edit s c.requires.session _ c.open_desks.new.publishers start c.args.workers c.query_count-limit.result c.into_queue-lines.result c.into_queue-lines.ensures refl (made.count ∙ c.requires.none.0) c.query_count-limit.ensures
+    can_edit s c.requires.session _ c.open_desks.new.publishers c.in_ok-progress.ensures.state c.args.workers c.query_count-limit.result c.into_queue-lines.result c.into_queue-lines.ensures refl (made.count ∙ c.requires.none.0) c.query_count-limit.ensures
     made.asked.0 made.asked.1 made.level made.tied (made.published ∙ c.in_ok-firsts.ensures)
 
 pub gathered_report-requires-after_bounds : goal.gathered_report-requires-after_bounds

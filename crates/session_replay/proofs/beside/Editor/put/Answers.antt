@@ -5,7 +5,7 @@ use Rattle.query_workers.specs.Asks.{Ask}
 use Rattle.query_dispatch.specs.Dealt.{HasAsked}
 use Rattle.session_work.specs.Queries.{query_of, query_with}
 use Rattle.session_work.specs.declared.queries.Question.{Question}
-use Rattle.session_work.specs.Working.{state_of}
+use Rattle.session_work.specs.Working.{more_state_of}
 use Rattle.session_replay.proofs.Asking.{asked_one, asks_more, at_place, begins, is_listed, nothing_asked, one_ask}
 use Rattle.session_work.proofs.Buffers.{not_found}
 use Rattle.session_replay.proofs.beside.Editor.put.Goals as goal
@@ -27,7 +27,7 @@ ask-requires-clause-grows g c =
 
 pub returns-clause-asking : goal.returns-clause-asking
 returns-clause-asking g c =
-    let s = state_of c.args.self.now.progress.plain in
+    let s = (more_state_of c.args.self.now.progress).plain in
     let bs = c.args.self.now.progress.plain.exchange.buffers in
     let r = c.args.id in
     let i = c.in-Some.index in

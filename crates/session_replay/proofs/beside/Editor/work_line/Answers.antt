@@ -5,11 +5,10 @@ use Rattle.session_more.specs.Reports.{more_report_text}
 use Rattle.session_more.specs.declared.session.MoreLine.{MoreLine}
 use Rattle.session_work.specs.MoreQueries.{more_query_at}
 use Rattle.session_work.specs.MoreWork.{more_events, more_step}
-use Rattle.session_work.specs.Working.{more_state_of}
+use Rattle.session_work.specs.Working.{ProgressState, more_state_of}
 use Rattle.session_replay.specs.Beside.{IsAsking, asks_among}
 use Rattle.session_work.specs.Queries.{query_with}
 use Rattle.session_work.specs.declared.queries.Question.{Question}
-use Rattle.session_work.specs.declared.replay.MoreProgress.{MoreProgress}
 use Rattle.session_replay.proofs.Asking.{asking_steps, asks_count, more_asks_only, no_question, nothing_asked}
 use Rattle.session_work.proofs.Steps.{on_any}
 use Rattle.session_work.proofs.MoreReports.{nothing_written}
@@ -22,7 +21,7 @@ pub returns-in-Ok-clause-report : goal.returns-in-Ok-clause-report
 returns-in-Ok-clause-report g c =
     let old = c.args.self.now.progress in
     let none = more_asks_only c.args.line (c.in-Ok.id, c.in-Ok.question) (sym c.in-Ok.ensures.ok) (more_state_of old) in
-    on_any c.put.result _ (ap (λ (p : MoreProgress). p.plain.report.items) c.put.ensures.same.1 ∙ nothing_written old.plain.report.items ∙ ap (λ rs. old.plain.report.items ++ more_report_text rs) (sym none.0))
+    on_any c.put.result _ (ap (λ (p : ProgressState). p.plain.report.items) c.put.ensures.same.1 ∙ nothing_written old.plain.report.items ∙ ap (λ rs. old.plain.report.items ++ more_report_text rs) (sym none.0))
 
 pub returns-in-Ok-clause-state : goal.returns-in-Ok-clause-state
 returns-in-Ok-clause-state g c =
@@ -39,7 +38,7 @@ returns-in-Ok-clause-asking g c =
     let q = c.put.new.publishers in
     let asked = subst (λ (o : Option (ℕ × Question)). OnOk c.put.result ((asks : List (Ask Question)) → IsAsking bs asks d p → IsAsking bs (asks ++ asks_among bs (query_with (length asks + 1) s.plain o)) e q))
     (sym c.in-Ok.ensures.ok) c.put.ensures.asking in
-    subst (λ (now : MoreProgress). OnOk c.put.result ((asks : List (Ask Question)) → IsAsking bs asks d p → IsAsking now.plain.exchange.buffers (asks ++ asks_among bs (more_query_at (length asks + 1) c.args.line s)) e q)) (sym c.put.ensures.same.1) asked
+    subst (λ (now : ProgressState). OnOk c.put.result ((asks : List (Ask Question)) → IsAsking bs asks d p → IsAsking now.plain.exchange.buffers (asks ++ asks_among bs (more_query_at (length asks + 1) c.args.line s)) e q)) (sym c.put.ensures.same.1) asked
 
 pub returns-in-Err-clause-report : goal.returns-in-Err-clause-report
 returns-in-Err-clause-report g c =

@@ -3,6 +3,7 @@ use Rattle.session_work.specs.MoreWork.{more_step}
 use Rattle.session_work.specs.Working.{more_state_of}
 use Rattle.session_replay.specs.Beside.{asks_among}
 use Rattle.session_work.specs.Later.{AllGrow}
+use Rattle.session_work.proofs.Excerpting.{room_after, room_before}
 use Rattle.session_work.proofs.Growth.{all_themselves, all_trans, more_step_grows}
 use Rattle.session_work.proofs.Steps.{more_report, more_state, lines_done, none_taken, on_err, taken_first}
 use Rattle.session_replay.proofs.Asking.{ends_same, ends_trans, leads_first, leads_last, leads_more, room_for}
@@ -16,6 +17,7 @@ loop-line-init g c =
       count = omega (arith, c.len-count.ensures.len);
       workers = refl;
       report = refl;
+      few = c.requires.few;
       state = refl;
       grows = all_themselves c.args.self.now.progress.plain.exchange.buffers;
       ends = ends_same d c.args.publishers.now;
@@ -30,6 +32,11 @@ pub work_line-requires-clause-room : goal.work_line-requires-clause-room
 work_line-requires-clause-room g c =
     room_for c.args.lines (more_state_of c.args.self.now.progress) c.requires.asking.0 c.loop-line.lines c.in-Some.line c.in-Some.rest (more_state_of c.loop-line.self.progress) c.loop-line.self.dispatcher c.loop-line.publishers
     (taken_first c.loop-line.lines _ (c.in-Some.line, c.in-Some.rest) c.in_ok-line.ensures c.in-Some.is) (c.loop-line.invariant.asking c.requires.asking.0 c.requires.asking.1)
+
+pub work_line-requires-clause-few : goal.work_line-requires-clause-few
+work_line-requires-clause-few g c =
+    room_before c.loop-line.lines c.in-Some.line c.in-Some.rest (more_state_of c.loop-line.self.progress)
+    (taken_first c.loop-line.lines _ (c.in-Some.line, c.in-Some.rest) c.in_ok-line.ensures c.in-Some.is) c.loop-line.invariant.few
 
 pub loop-line-smaller : goal.loop-line-smaller
 loop-line-smaller g c = omega (arith, ap (λ ls. length ls) (taken_first c.loop-line.lines _ (c.in-Some.line, c.in-Some.rest) c.in_ok-line.ensures c.in-Some.is))
@@ -50,6 +57,7 @@ loop-line-preserved g c =
       count = omega (arith, inv.count, ap (λ ls. length ls) begins);
       workers = worked.same ∙ inv.workers;
       report = more_report left l rest s t begins is _ _ _ inv.report worked.report;
+      few = room_after left l rest s t begins is inv.few;
       state = more_state left l rest s t begins is _ inv.state;
       grows = all_trans _ s.plain.buffers t.plain.buffers inv.grows (subst (λ u. AllGrow s.plain.buffers u.plain.buffers) (sym is) (more_step_grows l s));
       ends = ends_trans _ c.loop-line.self.dispatcher d _ c.loop-line.publishers p inv.ends worked.ends;

@@ -5,7 +5,8 @@ use Rattle.lamport_clock.specs.declared.stamp.Lamport.{Lamport}
 use Rattle.text_buffer.specs.Buffer.{BufferState}
 use Rattle.session_work.specs.Exchange.{AreThere, operation_in, undo_outcome_of}
 use Rattle.session_work.specs.Work.{buffer_of, stamps_under}
-use Rattle.session_work.proofs.Kept.{more_operations, more_there, still_there}
+use Rattle.session_work.proofs.Kept.{more_operations, more_there, still_there, grown}
+use Rattle.session_work.proofs.Growth.{all_themselves}
 use Rattle.session_work.proofs.exchange.Exchange.undo.Goals as goal
 
 pub invariant_of-self : goal.invariant_of-self
@@ -30,3 +31,15 @@ returns-clause-operations c =
     (more_operations c.args.id (λ (n : ℕ) (b : BufferState). undo_outcome_of n c.first_unnamed-unnamed.result c.as_slice.result.now b) c.args.self.now c.self.inside.replicas c.undo.new.self c.self.inside.named.items c.push.new.self.items
     c.next_number-number.result c.applied_len-index.result c.in_ok-made.made c.named_made.result
     c.self.view_is c.next_number-number.ensures c.applied_len-index.ensures c.undo.ensures.grows c.self.invariant c.in_ok-made.ensures.after c.in_ok-made.ensures.made c.named_made.ensures c.in_ok-push.ensures.items))
+
+pub returns-in_err-edits-clause-grows : goal.returns-in_err-edits-clause-grows
+returns-in_err-edits-clause-grows c = all_themselves c.args.self.now.buffers
+
+pub returns-in_err-made-clause-grows : goal.returns-in_err-made-clause-grows
+returns-in_err-made-clause-grows c = grown c.args.self.now c.self.inside.replicas c.undo.new.self c.self.inside.named.items c.self.view_is c.undo.ensures.grows
+
+pub returns-in_err-push-clause-grows : goal.returns-in_err-push-clause-grows
+returns-in_err-push-clause-grows c = grown c.args.self.now c.self.inside.replicas c.undo.new.self c.self.inside.named.items c.self.view_is c.undo.ensures.grows
+
+pub returns-clause-grows : goal.returns-clause-grows
+returns-clause-grows c = grown c.args.self.now c.self.inside.replicas c.undo.new.self c.self.inside.named.items c.self.view_is c.undo.ensures.grows
