@@ -6,7 +6,7 @@ import pathlib
 import re
 import sys
 
-# What is aimed at: a work, a row of what it prints, a column of it, what this is divided by, the most that it may be, and what it is then.
+# What is aimed at: a work, a row of what it prints or two of them, a column of it, what this is divided by, the most that it may be, and what it is then.
 AIMS = [
     *(("trees", row, "p/tree", 1, 1.3, "of a plain tree's time") for row in
       "Push Get SharePush FromList Type ShareType Fill Find Insert Remove".split()),
@@ -17,6 +17,13 @@ AIMS = [
     ("spans", "AtText", "proved", 100_000, 0.5, "microseconds each"),
     ("spans", "AtShown", "proved", 100_000, 0.5, "microseconds each"),
     ("spans", "TouchReplace", "proved", 100_000, 5, "microseconds each"),
+    ("excerpts", "ToSource", "proved", 100_000, 1, "microseconds each"),
+    ("excerpts", "ToMulti", "proved", 100_000, 1, "microseconds each"),
+    ("excerpts", "Split", "proved", 10_000, 3, "milliseconds for 1,000 changes"),
+    ("excerpts", "Rope", "proved", 10_000, 5, "milliseconds each"),
+    ("excerpts", "EditsSynced - Edits", "proved", 1_000, 300, "microseconds a sync"),
+    ("excerpts", "SyncSame", "proved", 100_000, 0.2, "microseconds each"),
+    ("excerpts", "Text / Copy", "proved", 1, 2, "of the time of a copy of the text"),
     ("anchors", "Anchors", "proved", 10_000, 1, "microseconds each"),
     ("anchors", "Resolve", "proved", 100_000, 1, "microseconds each"),
     ("anchors", "Compare", "proved", 100_000, 1, "microseconds each"),
@@ -52,11 +59,22 @@ def rows_of(lines):
     return rows
 
 
+def measured(rows, row, column):
+    """What a row has in a column, or the difference or the ratio of two rows; None where a row has no number there."""
+    first, sign, second = (*row.split(), "", "")[:3]
+    numbers = [rows.get(it, {}).get(column, "") for it in (first, second) if it]
+    if not all(re.fullmatch(r"[\d.]+", it) for it in numbers):
+        return None
+    one, *others = map(float, numbers)
+    return one - others[0] if sign == "-" else one / others[0] if sign == "/" else one
+
+
 def aims_of(name, lines):
     rows = rows_of(lines)
     for work, row, column, divisor, most, words in AIMS:
-        if work == name and re.fullmatch(r"[\d.]+", rows.get(row, {}).get(column, "")):
-            value = float(rows[row][column]) / divisor
+        value = measured(rows, row, column) if work == name else None
+        if value is not None:
+            value /= divisor
             yield f"| `{row}` | {most:g} {words} | {value:.2g} | {'yes' if value <= most else '**no**'} |"
 
 

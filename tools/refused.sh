@@ -68,6 +68,10 @@ listed() {
         echo "anchors, marks and undos, $workers workers|$here/../examples/caret.session|replay --workers $workers"
         echo "a reopened replica, $workers workers|$(session_of a_reopened_replica)|replay --workers $workers"
     done
+    echo "selections|$here/../examples/selections.session|replay --workers 0"
+    echo "folds|$here/../examples/folds.session|replay --workers 0"
+    echo "excerpts|$here/../examples/excerpts.session|replay --workers 0"
+    echo "pack|$here/../examples/caret.session|pack"
     echo "check|$here/../examples/caret.session|check"
     echo "migrate|$here/../examples/caret.session|migrate"
     echo "make|/dev/null|make --seed 5 --replicas 2 --edits 10"

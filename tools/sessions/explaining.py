@@ -18,7 +18,7 @@ ACCEPTED = {
     "cr": "texts without CR, or a session of version 2 already",
     "name": (
         "a name that an earlier line keeps: one of `anchor` lines for `where`, of `mark` for `since`, "
-        "of `select` for `share`"
+        "of `select` for `share`, of `excerpt` for `multi` and `medit`"
     ),
     "too large: bytes": "at most 67,108,864 bytes",
     "too large: lines": "at most 1,048,576 lines",

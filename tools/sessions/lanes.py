@@ -7,12 +7,14 @@ from . import lines as kinds
 from .comparing import Difference
 from .histories import history_of
 from .layout import Laid, columns, lay, wrap
-from .replay import Event, Replay
+from .replay import Event, Part, Replay
 from .svg import (
     AMBER,
     CHAR,
     Colours,
+    FOLDED,
     GREEN,
+    HEAD,
     INK,
     MUTED,
     RED,
@@ -36,19 +38,35 @@ SENT = 0
 
 
 @dataclass
-class Row:
-    """An event as it is drawn: its words cut to the lane, its text laid."""
+class Block:
+    """Words cut to a lane, and a text laid below them."""
 
-    event: Event
     lane: int
     heads: list[Head]
     laid: Laid | None
-    y: float = 0
 
     def height(self) -> float:
-        """How high the row is."""
+        """How high it is."""
         texts = self.laid.rows + (self.laid.left_out > 0) if self.laid else 0
-        return len(self.heads) * SMALL_ROW + texts * ROW + GAP
+        return len(self.heads) * SMALL_ROW + texts * ROW
+
+    def width(self) -> float:
+        """How wide it is."""
+        widths = [columns(head.words) * SMALL for head in self.heads]
+        return max([self.laid.width() * CHAR if self.laid else 0, *widths])
+
+
+@dataclass
+class Row(Block):
+    """An event as it is drawn, and what it made at other lanes."""
+
+    event: Event
+    others: list[Block]
+    y: float = 0
+
+    def row_height(self) -> float:
+        """How high the row is."""
+        return max(block.height() for block in [self, *self.others]) + GAP
 
 
 @dataclass
@@ -93,13 +111,22 @@ class Lanes:
         laid = None
         if event.history and not isinstance(event.line, kinds.MarkLine):
             laid = lay(event.history, self.most)
-        return Row(event, event.replica or SENT, cut, laid)
+        others = [
+            Block(
+                part.replica,
+                [Head(f"operation {part.number}, stamp {part.operation.stamp}")],
+                lay(part.history, self.most),
+            )
+            for part in event.parts
+        ]
+        return Row(event.replica or SENT, cut, laid, event, others)
 
     def _words_width(self, lane: int) -> float:
-        rows = [row for row in self.rows if row.lane == lane]
-        widths = [row.laid.width() * CHAR for row in rows if row.laid]
-        widths += [columns(head.words) * SMALL for row in rows for head in row.heads]
-        if lane != SENT:
+        blocks = [block for row in self.rows for block in [row, *row.others]]
+        widths = [block.width() for block in blocks if block.lane == lane]
+        if lane == SENT:
+            widths.append(columns(self._sent_name()) * HEAD)
+        else:
             widths.append(self.first[lane].width() * CHAR)
         return max([16 * CHAR, *widths])
 
@@ -122,9 +149,12 @@ class Lanes:
         y: float = TOP + deepest * ROW + GAP
         for row in self.rows:
             row.y = y
-            y += row.height()
-            if row.event.number and isinstance(row.event.line, kinds.OPERATION_LINES):
-                self.marks[row.event.number] = (self.places[row.lane].x, row.y)
+            y += row.row_height()
+            count = kinds.number_count(row.event.line, len(self.replay.replicas))
+            for number in range(row.event.number or 0, (row.event.number or 0) + count):
+                self.marks[number] = (self.places[row.lane].x, row.y)
+            for part in row.event.parts:
+                self.marks[part.number] = (self.places[part.replica].x, row.y)
         return y
 
     def _colour(self, lane: int) -> str:
@@ -141,13 +171,22 @@ class Lanes:
         label = "what each author did, and what came of it, line by line"
         return picture(self.width, self.bottom + 6, label, parts, is_file)
 
+    def _sent_name(self) -> str:
+        """What stands above the lane of what happens at no replica."""
+        lines = [row.event.line for row in self.rows if row.lane == SENT]
+        sent = any(isinstance(line, (kinds.OpLine, kinds.UopLine)) for line in lines)
+        shown = any(isinstance(line, (kinds.MultiLine, kinds.MeditLine)) for line in lines)
+        if sent and shown:
+            return "operations as they are sent, and excerpts"
+        return "excerpts" if shown else "operations as they are sent"
+
     def _frame(self) -> list[str]:
         """The lines of the lanes, their names, and the base at the head of each."""
         parts = []
         for number, lane in self.places.items():
             colour = self._colour(number)
             parts.append(line(lane.x, TOP - 34, lane.x, self.bottom, colour, 2))
-            name = "operations as they are sent" if number == SENT else f"author {number}"
+            name = self._sent_name() if number == SENT else f"author {number}"
             parts.append(
                 text(lane.left if lane.is_mirrored else lane.x, TOP - 46, name, colour, "head")
             )
@@ -168,12 +207,16 @@ class Lanes:
         for at, head in enumerate(row.heads):
             colour = head.colour or self._colour(row.lane)
             parts.append(text(lane.left, row.y + 4 + at * SMALL_ROW, head.words, colour, "small"))
+        for block, part in zip(row.others, event.parts):
+            parts += self._made_at(block, part, row.y)
         if row.laid:
             base = row.y + 6 + len(row.heads) * SMALL_ROW
             for start, end in event.ranges:
                 parts += marker(row.laid, start, end, lane.left, base)
+            for start, end in event.folded:
+                parts += marker(row.laid, start, end, lane.left, base, FOLDED)
             parts += laid_text(row.laid, self.colours, lane.left, base)
-            if isinstance(event.line, (kinds.SelectLine, kinds.SelectedLine)):
+            if isinstance(event.line, (kinds.SelectLine, kinds.SelectedLine, kinds.ExcerptLine)):
                 for start, end in event.ranges:
                     if start == end:
                         parts.append(caret(row.laid, start, "right", lane.left, base))
@@ -181,14 +224,23 @@ class Lanes:
                 parts.append(caret(row.laid, event.offset, event.side, lane.left, base))
         return parts
 
+    def _made_at(self, block: Block, part: Part, y: float) -> list[str]:
+        """What an edit of excerpts made at a replica: its number, its words and the text after it."""
+        lane, colour = self.places[block.lane], self._colour(block.lane)
+        heads = [
+            text(lane.left, y + 4 + at * SMALL_ROW, head.words, colour, "small")
+            for at, head in enumerate(block.heads)
+        ]
+        assert block.laid is not None
+        base = y + 6 + len(block.heads) * SMALL_ROW
+        shown = laid_text(block.laid, self.colours, lane.left, base)
+        return [_numbered(lane.x, y, part.number, colour), *heads, *shown]
+
     def _mark(self, row: Row) -> str:
         event, x = row.event, self.places[row.lane].x
         if isinstance(event.line, kinds.OPERATION_LINES):
-            fill, number = RED if event.operation is None else self._colour(row.lane), str(
-                event.number
-            )
-            words = text(x - len(number) * SMALL / 2, row.y + 4, number, "#fff", "small bold bare")
-            return circle(x, row.y, 9 if len(number) < 3 else 12, fill) + words
+            fill = RED if event.operation is None else self._colour(row.lane)
+            return _numbered(x, row.y, event.number or 0, fill)
         if isinstance(event.line, kinds.GiveLine):
             return circle(x, row.y, 6, "#fff", _tone(event))
         return element("rect", x=x - 4, y=row.y - 4, width=8, height=8, fill=MUTED)
@@ -206,6 +258,13 @@ class Lanes:
             stroke_dasharray={AMBER: "6 4", MUTED: "2 4"}.get(tone, ""),
             marker_end=f"url(#to-{tone[1:]})",
         )
+
+
+def _numbered(x: float, y: float, number: int, fill: str) -> str:
+    """A disc with the number of an operation."""
+    shown = str(number)
+    words = text(x - len(shown) * SMALL / 2, y + 4, shown, "#fff", "small bold bare")
+    return circle(x, y, 9 if len(shown) < 3 else 12, fill) + words
 
 
 def _way(start: tuple[float, float], end: tuple[float, float]) -> str:

@@ -148,6 +148,64 @@ class SelectedLine:
     author: int
 
 
+@dataclass(frozen=True)
+class FoldLine:
+    """A replica folds a range of its text. Version 2 has it alone."""
+
+    replica: int
+    start: int
+    end: int
+
+
+@dataclass(frozen=True)
+class UnfoldLine:
+    """A replica unfolds what has a byte in a range of its text. Version 2 has it alone."""
+
+    replica: int
+    start: int
+    end: int
+
+
+@dataclass(frozen=True)
+class FoldedLine:
+    """A replica's text is reported as it is folded. Version 2 has it alone."""
+
+    replica: int
+
+
+@dataclass(frozen=True)
+class DisplayLine:
+    """Where an offset of a replica's text is shown is reported. Version 2 has it alone."""
+
+    replica: int
+    offset: int
+
+
+@dataclass(frozen=True)
+class ExcerptLine:
+    """A range of a replica's text becomes an excerpt under a name. Version 2 has it alone."""
+
+    name: str
+    replica: int
+    start: int
+    end: int
+
+
+@dataclass(frozen=True)
+class MultiLine:
+    """The text of the excerpts under a name is reported. Version 2 has it alone."""
+
+    name: str
+
+
+@dataclass(frozen=True)
+class MeditLine:
+    """The text of the excerpts under a name is edited in their replicas. Version 2 has it alone."""
+
+    name: str
+    pieces: Ranges
+
+
 Line = Union[
     EditLine,
     UndoLine,
@@ -166,9 +224,17 @@ Line = Union[
     SelectLine,
     ShareLine,
     SelectedLine,
+    FoldLine,
+    UnfoldLine,
+    FoldedLine,
+    DisplayLine,
+    ExcerptLine,
+    MultiLine,
+    MeditLine,
 ]
 OPERATION_LINES = (EditLine, UndoLine, OpLine, UopLine)
 QUERY_LINES = (FindLine, PointLine, OffsetLine)
+FOLD_LINES = (FoldLine, UnfoldLine, FoldedLine, DisplayLine)
 
 
 @dataclass(frozen=True)
@@ -190,3 +256,8 @@ class Session:
     def front(self, most: int) -> Session:
         """The session of its first lines, the header being one of them."""
         return Session(self.header, self.lines[: most - 1])
+
+
+def number_count(line: Line, replicas: int) -> int:
+    """How many numbers of operation lines the line takes in a session of so many replicas."""
+    return replicas if isinstance(line, MeditLine) else isinstance(line, OPERATION_LINES)

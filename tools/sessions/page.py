@@ -12,7 +12,7 @@ from .layout import shortened
 from .operations import Operation
 from .reading import BadLine, TooLarge, cut_lines, read_session
 from .replay import Replay
-from .svg import AMBER, GREEN, INK, MUTED, RED, STYLE, Colours
+from .svg import AMBER, FOLDED, GREEN, INK, MUTED, RED, STYLE, Colours
 from .trees import draw_tree
 
 MOST_LINES = 200
@@ -38,7 +38,7 @@ def make_page(name: str, raw: bytes, report: str | None) -> str:
     found = [] if given is None else differences(replay, given, whole)
     colours = Colours(session.header.replicas)
     lanes = Lanes(replay, found, colours).draw()
-    parts = [_verdict(given is not None, found, whole), _legend(session.header.replicas, colours)]
+    parts = [_verdict(given is not None, found, whole), _legend(replay, colours)]
     if not whole:
         parts.append(
             _paragraph(f"The session has {count} lines; the first {MOST_LINES} are shown.", "bad")
@@ -102,7 +102,8 @@ def _verdict(is_given: bool, found: list[Difference], whole: bool) -> str:
     return f'{words}\n<ul class="bad">{"".join(shown)}</ul>'
 
 
-def _legend(replicas: tuple[int, ...], colours: Colours) -> str:
+def _legend(replay: Replay, colours: Colours) -> str:
+    replicas = replay.session.header.replicas
     struck = f'<s style="color:{RED}"><span style="color:{INK}">struck</span></s> hidden, but kept'
     signs = [(INK, "■ the base")]
     signs += [(colours.of(replica), f"■ author {replica}") for replica in replicas]
@@ -113,6 +114,8 @@ def _legend(replicas: tuple[int, ...], colours: Colours) -> str:
         (MUTED, "┈▶ delivered again"),
         (RED, "─▶ delivered and refused"),
     ]
+    if any(event.folded for event in replay.events):
+        signs.append((INK, f'<span style="background:{FOLDED}">grey</span> shown as one ⋯'))
     words = " ".join(f'<span style="color:{colour}">{words}</span>' for colour, words in signs)
     return _paragraph(words, "legend")
 

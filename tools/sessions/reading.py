@@ -67,6 +67,14 @@ def _offset(value: Any) -> int:
     return _number(value, "the offset", U64)
 
 
+def _start(value: Any) -> int:
+    return _number(value, "the start", U64)
+
+
+def _end(value: Any) -> int:
+    return _number(value, "the end", U64)
+
+
 def _row(value: Any) -> int:
     return _number(value, "the row", U64)
 
@@ -203,6 +211,15 @@ FORMS_OF_2: dict[str, Form] = {
     "select": Form(kinds.SelectLine, (_replica, _name, _spans), '["select",r,"name",[[s,e],..]]'),
     "share": Form(kinds.ShareLine, (_replica, _name), '["share",r,"name"]'),
     "selected": Form(kinds.SelectedLine, (_replica, _author), '["selected",r,a]'),
+    "fold": Form(kinds.FoldLine, (_replica, _start, _end), '["fold",r,s,e]'),
+    "unfold": Form(kinds.UnfoldLine, (_replica, _start, _end), '["unfold",r,s,e]'),
+    "folded": Form(kinds.FoldedLine, (_replica,), '["folded",r]'),
+    "display": Form(kinds.DisplayLine, (_replica, _offset), '["display",r,o]'),
+    "excerpt": Form(
+        kinds.ExcerptLine, (_name, _replica, _start, _end), '["excerpt","name",r,s,e]'
+    ),
+    "multi": Form(kinds.MultiLine, (_name,), '["multi","name"]'),
+    "medit": Form(kinds.MeditLine, (_name, _pieces), '["medit","name",[[s,e,"t"],..]]'),
 }
 """The forms of lines of a session of version 2."""
 
@@ -249,6 +266,7 @@ class _Earlier:
         self.anchors: set[str] = set()
         self.marks: set[str] = set()
         self.selects: set[str] = set()
+        self.excerpts: set[str] = set()
 
     def fault(self, line: kinds.Line) -> tuple[str, str] | None:
         """The word for what a line of a good shape names that is not there, and the reason."""
@@ -277,17 +295,24 @@ class _Earlier:
                 "name",
                 f'no select line before it has the name "{line.name}"; {_names(self.selects)}',
             )
+        if isinstance(line, (kinds.MultiLine, kinds.MeditLine)) and line.name not in self.excerpts:
+            return (
+                "name",
+                f'no excerpt line before it has the name "{line.name}"; {_names(self.excerpts)}',
+            )
         return None
 
     def add(self, line: kinds.Line) -> None:
         """Counts what the line makes."""
-        self.operations += isinstance(line, kinds.OPERATION_LINES)
+        self.operations += kinds.number_count(line, len(self.replicas))
         if isinstance(line, kinds.AnchorLine):
             self.anchors.add(line.name)
         elif isinstance(line, kinds.MarkLine):
             self.marks.add(line.name)
         elif isinstance(line, kinds.SelectLine):
             self.selects.add(line.name)
+        elif isinstance(line, kinds.ExcerptLine):
+            self.excerpts.add(line.name)
 
     def _numbers(self) -> str:
         return f"there are 1 to {self.operations}" if self.operations else "there is none at all"

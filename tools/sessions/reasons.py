@@ -264,6 +264,8 @@ def fault_reason(fault: Fault) -> Reason:
 def event_reason(replay: Replay, event: Event) -> Reason | None:
     """Why the line of an event is refused, or waits, or has no answer; None where it does what it says."""
     line = event.line
+    if isinstance(line, kinds.MeditLine):
+        return _medit_reason(event.answer, line) if event.answer else None
     if event.history is None:
         return None
     if isinstance(line, (kinds.EditLine, kinds.UndoLine)):
@@ -278,6 +280,9 @@ def event_reason(replay: Replay, event: Event) -> Reason | None:
         return _share_reason(event, line)
     if isinstance(line, kinds.SelectedLine):
         return _selected_reason(event, line)
+    if isinstance(line, (kinds.FoldLine, kinds.UnfoldLine, kinds.ExcerptLine)):
+        ranges = ((line.start, line.end),)
+        return _range_reason(event.answer, ranges, event.history.text) if event.answer else None
     return _asked_reason(event, event.history)
 
 
@@ -347,15 +352,52 @@ def _select_reason(event: Event, line: kinds.SelectLine) -> Reason | None:
     if answer.word == "clockend":
         says = f"the clock of what replica {line.replica} selects is at {LAST_VALUE}, its end"
         return Reason(word, says, "a line of a replica that has not taken such a stamp")
+    return _range_reason(answer, line.ranges, text)
+
+
+def _range_reason(answer: Answer, ranges: kinds.Spans, text: bytes) -> Reason:
+    """Why a range is none of a text, or has no byte."""
+    word = str(answer)
+    if answer.word == "emptyrange":
+        return Reason(word, f"the range is empty, at {ranges[0][0]}", "a range with a byte")
     at = answer.numbers[0]
     assert isinstance(at, int)
-    start, end = line.ranges[at]
+    start, end = ranges[at]
     if answer.word == "reversed":
         says = f"range {at} starts at {start}, past its end {end}"
         return Reason(word, says, "a start up to the end")
     place = end if answers.clip(text, start, -1) == start or end > len(text) else start
     reason = _place_reason(word, place, text)
     return Reason(word, f"of range {at}, {reason.says}", reason.accepted)
+
+
+EXCERPT_FAULTS = ("crosses", "shared")
+"""The faults that an edit of excerpts has beside those of an edit."""
+
+
+def _medit_reason(answer: Answer, line: kinds.MeditLine) -> Reason:
+    """Why an edit of excerpts is no edit of their replicas."""
+    word, at = str(answer), answer.numbers[0]
+    assert isinstance(at, int)
+    if answer.word == "textlimit":
+        says = f"its new texts have {at} bytes together"
+        return Reason(word, says, f"at most {TEXT_LIMIT} bytes; a longer text goes in by several edits")
+    start, end, _ = line.pieces[at]
+    says, accepted = {
+        "reversed": (f"starts at {start}, past its end {end}", "a start up to the end"),
+        "overlap": (
+            f"starts at {start}, before the piece before it ends",
+            "pieces in ascending order that share no byte; they may touch",
+        ),
+        "pastend": (f"ends at {end}, past the text of the excerpts", "an end up to the text's"),
+        "insidechar": ("starts or ends inside a character", "places between characters"),
+        "crosses": ("is in no one excerpt", "a piece that one excerpt has as a whole"),
+        "shared": (
+            f"is at a place that excerpt {answer.numbers[-1]} has too",
+            "a piece at a place that no other excerpt has",
+        ),
+    }[answer.word]
+    return Reason(word, f"piece {at} {says}", accepted)
 
 
 def _share_reason(event: Event, line: kinds.ShareLine) -> Reason | None:

@@ -4,7 +4,7 @@ from __future__ import annotations
 from typing import Iterable, Iterator, NamedTuple
 
 from .json_values import write_value
-from .lines import OPERATION_LINES
+from .lines import number_count
 from .operations import Edit, Operation, Piece, Stamp, Undo, Version
 from .reading import BadLine, check_size
 from .replay import Replay
@@ -170,13 +170,16 @@ def packed(replay: Replay) -> bytes:
     """The records of a session's operations, by their numbers. Fails with `BadLine` where one is too long."""
     records = []
     for event in replay.events:
-        if not isinstance(event.line, OPERATION_LINES) or event.operation is None:
-            continue
-        try:
-            records.append(record_of(event.operation))
-        except TooLong:
-            reason = f"operation {event.operation.stamp} has more of something than a record may have"
-            raise BadLine(event.place, "long", reason) from None
+        count = number_count(event.line, len(replay.replicas))
+        first = (event.number or 1) - 1
+        for operation in replay.operations[first : first + count]:
+            if operation is None:
+                continue
+            try:
+                records.append(record_of(operation))
+            except TooLong:
+                reason = f"operation {operation.stamp} has more of something than a record may have"
+                raise BadLine(event.place, "long", reason) from None
     return b"".join(records)
 
 

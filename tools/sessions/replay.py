@@ -9,7 +9,19 @@ from .histories import History, history_of
 from .json_values import write_string
 from .operations import Edit, Operation, Piece, Stamp, Undo, Version
 from .replicas import Answer, Replica
+from .excerpts import Excerpts
+from .folds import Folds
 from .selections import Selections, Sets, places_of, unknown_range
+
+
+@dataclass(frozen=True)
+class Part:
+    """What an edit of excerpts made at one replica, under a number, and what the replica has after it."""
+
+    replica: int
+    number: int
+    operation: Operation
+    history: History
 
 
 @dataclass
@@ -43,9 +55,13 @@ class Event:
     mark: Version | None = None
     """The version that a `since` line names."""
     ranges: tuple[tuple[int, int], ...] = ()
-    """The ranges of the text that a line speaks of: found, changed since a mark, or selected. An empty one is a caret."""
+    """The ranges that a line speaks of: found, changed since a mark, selected, or an excerpt. An empty one is a caret."""
     selections: Selections | None = None
     """What a `select` line makes, or a `share` or `selected` line speaks of."""
+    parts: tuple[Part, ...] = ()
+    """What a `medit` line made, in the order of the replicas."""
+    folded: tuple[tuple[int, int], ...] = ()
+    """The ranges of the text that are each shown as one ⋯ after a line of folds."""
 
 
 @dataclass(frozen=True)
@@ -70,6 +86,8 @@ class Replay:
         self.marks: dict[str, Version] = {}
         self.sets = {number: Sets(number) for number in session.header.replicas}
         self.selects: dict[str, Selections] = {}
+        self.folds = {number: Folds() for number in session.header.replicas}
+        self.excerpts: dict[str, Excerpts] = {}
         self.queries: list[Query] = []
         self.events = [self._event(place, line) for place, line in enumerate(session.lines, 2)]
 
@@ -90,6 +108,13 @@ class Replay:
             kinds.SelectLine: self._select,
             kinds.ShareLine: self._share,
             kinds.SelectedLine: self._selected,
+            kinds.FoldLine: self._fold,
+            kinds.UnfoldLine: self._unfold,
+            kinds.FoldedLine: self._folded,
+            kinds.DisplayLine: self._display,
+            kinds.ExcerptLine: self._excerpt,
+            kinds.MultiLine: self._multi,
+            kinds.MeditLine: self._medit,
         }
         replica = self.replicas.get(event.replica or 0)
         before = (len(replica.applied), len(replica.refused)) if replica else (0, 0)
@@ -99,6 +124,8 @@ class Replay:
             event.refused = tuple(replica.refused[before[1] :])
             event.history = replica.history
             event.waiting = tuple(sorted(operation.stamp for operation in replica.waiting))
+            if isinstance(line, kinds.FOLD_LINES):
+                event.folded = tuple(self.folds[line.replica].dots(replica.history))
         return event
 
     def _edit(self, event: Event) -> None:
@@ -230,6 +257,86 @@ class Replay:
                 said = f"unknown {unknown}"
         event.said.append(f"selected {event.line.author} at {event.replica}: {said}")
 
+    def _fold(self, event: Event) -> None:
+        assert isinstance(event.line, kinds.FoldLine)
+        line, history = event.line, self.replicas[event.line.replica].history
+        event.answer = self.folds[line.replica].fold(history, line.start, line.end)
+        event.said.append(f"fold {line.replica}: {event.answer or 'set'}")
+
+    def _unfold(self, event: Event) -> None:
+        assert isinstance(event.line, kinds.UnfoldLine)
+        line, history = event.line, self.replicas[event.line.replica].history
+        result = self.folds[line.replica].unfold(history, line.start, line.end)
+        event.answer = result if isinstance(result, Answer) else None
+        event.said.append(f"unfold {line.replica}: {result}")
+
+    def _folded(self, event: Event) -> None:
+        assert isinstance(event.line, kinds.FoldedLine)
+        text = self.folds[event.line.replica].text(self.replicas[event.line.replica].history)
+        event.said.append(
+            f"folded {event.replica}: {len(text)} bytes, {write_string(text.decode())}"
+        )
+
+    def _display(self, event: Event) -> None:
+        assert isinstance(event.line, kinds.DisplayLine)
+        line, history = event.line, self.replicas[event.line.replica].history
+        places = self.folds[line.replica].places(history, line.offset)
+        said = f"{places[0]} {places[1]}" if places else "none"
+        event.offset = line.offset if places else None
+        event.said.append(f"display {line.offset} at {line.replica}: {said}")
+
+    def _excerpts_of(self, name: str) -> Excerpts:
+        """The excerpts under a name, found in the texts of all replicas."""
+        excerpts = self.excerpts.setdefault(name, Excerpts())
+        for number, replica in self.replicas.items():
+            excerpts.sync(number, replica.history)
+        return excerpts
+
+    def _excerpt(self, event: Event) -> None:
+        assert isinstance(event.line, kinds.ExcerptLine)
+        line, history = event.line, self.replicas[event.line.replica].history
+        result = self._excerpts_of(line.name).push(line.replica, history, line.start, line.end)
+        if isinstance(result, Answer):
+            event.answer = result
+        else:
+            event.ranges = ((line.start, line.end),)
+        event.said.append(f"excerpt {write_string(line.name)}: {result}")
+
+    def _multi(self, event: Event) -> None:
+        assert isinstance(event.line, kinds.MultiLine)
+        text = self._excerpts_of(event.line.name).text()
+        event.said.append(
+            f"multi {write_string(event.line.name)}: {len(text)} bytes, "
+            + write_string(text.decode())
+        )
+
+    def _medit(self, event: Event) -> None:
+        assert isinstance(event.line, kinds.MeditLine)
+        name, split = event.line.name, self._excerpts_of(event.line.name).split(event.line.pieces)
+        made: list[Operation | Answer] = []
+        for number, replica in self.replicas.items():
+            pieces = {} if isinstance(split, Answer) else split
+            edited = number in pieces
+            made.append(replica.edit(pieces[number]) if edited else Answer("nothing"))
+        event.number = len(self.operations) + 1
+        numbered = zip(self.replicas.values(), range(event.number, event.number + len(made)), made)
+        event.parts = tuple(
+            Part(replica.number, number, result, replica.history)
+            for replica, number, result in numbered
+            if not isinstance(result, Answer)
+        )
+        said = []
+        for number, result in enumerate(made, event.number):
+            is_made = not isinstance(result, Answer)
+            self.operations.append(result if is_made else None)
+            said.append(f"{number} {result.stamp if is_made else result}")
+        event.answer = split if isinstance(split, Answer) else None
+        event.said.append(f"medit {write_string(name)}: {event.answer or ', '.join(said)}")
+        for (number, replica), result in zip(self.replicas.items(), made):
+            settled = 0 if isinstance(result, Answer) else replica.settle()
+            if settled:
+                event.said.append(f"settled {number}: {settled}")
+
     def _query(self, event: Event) -> None:
         event.number = len(self.queries) + 1
         query = Query(event, len(self.replicas[event.replica or 0].applied) - 1)
@@ -297,7 +404,8 @@ def operation_of(line: kinds.OpLine | kinds.UopLine) -> Operation:
 
 def counts_line(session: kinds.Session) -> str:
     """What `zedbuf check` writes for a session."""
-    operations = sum(isinstance(line, kinds.OPERATION_LINES) for line in session.lines)
+    replicas = len(session.header.replicas)
+    operations = sum(kinds.number_count(line, replicas) for line in session.lines)
     queries = sum(isinstance(line, kinds.QUERY_LINES) for line in session.lines)
     return (
         f"session ok: {len(session.lines) + 1} lines, {len(session.header.replicas)} replicas, "

@@ -117,7 +117,13 @@ def caret(laid: Laid, offset: int, side: str, x: float, y: float) -> str:
     return element("path", d=path, fill="none", stroke=PINK, stroke_width=1.8)
 
 
-def marker(laid: Laid, start: int, end: int, x: float, y: float) -> list[str]:
+SPOKEN_OF, FOLDED = "#fff2a8", "#dcdcdc"
+"""The grounds of what a line speaks of and of what is folded."""
+
+
+def marker(
+    laid: Laid, start: int, end: int, x: float, y: float, ground: str = SPOKEN_OF
+) -> list[str]:
     """A ground below the bytes of a range of the shown text."""
     parts = []
     for at in range(start, end):
@@ -125,7 +131,7 @@ def marker(laid: Laid, start: int, end: int, x: float, y: float) -> list[str]:
         if row == last_row and last > column:
             place: dict[str, Attribute] = {"x": x + column * CHAR, "y": y + row * ROW - 13}
             parts.append(
-                element("rect", fill="#fff2a8", width=(last - column) * CHAR, height=17, **place)
+                element("rect", fill=ground, width=(last - column) * CHAR, height=17, **place)
             )
     return parts
 

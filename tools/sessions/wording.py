@@ -148,5 +148,6 @@ def _asked_head(event: Event) -> Head:
         return Head(f"what author {line.author} has selected: {answer}", MUTED)
     if isinstance(line, kinds.PointLine):
         return Head(f"point {line.offset}: {answer}", MUTED)
-    assert isinstance(line, kinds.OffsetLine)
-    return Head(f"offset {line.row}:{line.column}: {answer}", MUTED)
+    if isinstance(line, kinds.OffsetLine):
+        return Head(f"offset {line.row}:{line.column}: {answer}", MUTED)
+    return Head(event.said[0], RED if event.answer else MUTED)
