@@ -69,13 +69,18 @@ def measured(rows, row, column):
     return one - others[0] if sign == "-" else one / others[0] if sign == "/" else one
 
 
+def shown(value):
+    """A number with two digits that count, or all those before the point."""
+    return f"{value:.0f}" if value >= 10 else f"{value:.2g}"
+
+
 def aims_of(name, lines):
     rows = rows_of(lines)
     for work, row, column, divisor, most, words in AIMS:
         value = measured(rows, row, column) if work == name else None
         if value is not None:
             value /= divisor
-            yield f"| `{row}` | {most:g} {words} | {value:.2g} | {'yes' if value <= most else '**no**'} |"
+            yield f"| `{row}` | {most:g} {words} | {shown(value)} | {'yes' if value <= most else '**no**'} |"
 
 
 def section(name, lines):
