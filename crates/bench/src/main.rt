@@ -1,7 +1,7 @@
 //! Works on buffers, timed: `bench WORK NUMBER..`, with `timed` as the last word for the microseconds of each. Its
 //! answer is written in any case, so that scripts can compare it. A command line may name several of these works:
 //!
-//! - `snapshot BYTES`, `publish BYTES TIMES`, `forget COUNT` and `endings BYTES EDITS`;
+//! - `snapshot BYTES`, `publish BYTES TIMES`, `forget COUNT`, `endings BYTES EDITS` and `folds BYTES COUNT`;
 //! - `edits`, `undo`, `anchors` and `selections`, each with FRAGMENTS;
 //! - `opened`, `taken` and `dropped`, each with COUNT [KIND], and `refused COUNT`.
 #![tactic(auto)]
@@ -9,6 +9,7 @@
 mod buffers;
 mod carets;
 mod endings;
+mod foldings;
 mod openings;
 mod publish;
 
@@ -27,6 +28,7 @@ fn work<R: Threads + Wait + Sync>(
     let (size, times) = (number(words, 1), number(words, 2));
     match words.first().map_or("", |word| word.as_str()) {
         "endings" => Ok(endings::works(report, size, times)?),
+        "folds" => Ok(foldings::works(report, size, times)?),
         "opened" => Ok(openings::works(report, Way::Open, size, times)?),
         "taken" => Ok(openings::works(report, Way::Take, size, times)?),
         "dropped" => Ok(openings::works(report, Way::Drop, size, times)?),

@@ -27,8 +27,8 @@ pub fn pieces(alloc: Global, changes: &[Change]) -> Result<Vec<Piece>, OutOfMemo
     Ok(list)
 }
 
-// Makes an edit. Whether it is made.
-fn edit(buffer: &mut Buffer, changes: &[Piece]) -> bool
+/// Makes an edit. Whether it is made.
+pub fn edit(buffer: &mut Buffer, changes: &[Piece]) -> bool
     ensures { IsWithin buffer.old.history buffer.new.history }
 {
     buffer.edit_uncounted(changes).is_ok()

@@ -3,4 +3,4 @@
 
 mod desk;
 
-pub use desk::{Change, Desk, pieces};
+pub use desk::{Change, Desk, edit, pieces};

@@ -4,6 +4,8 @@
 #[cfg(test)]
 mod limits;
 #[cfg(test)]
+mod other;
+#[cfg(test)]
 mod random;
 #[cfg(test)]
 mod refused;

@@ -1,0 +1,5 @@
+use Rattle.text_buffer.specs.Document.{IsFront}
+use Rattle.bench.proofs.foldings.edit_all.Given as goal
+
+abbrev pub invariant-loop : goal.invariant-loop
+invariant-loop l = IsFront l.initial.buffer.history l.buffer.history
