@@ -4,10 +4,9 @@ use Rattle.std.specs.Prelude.{IfSome}
 use Rattle.std.specs.Option.{option_map}
 use Rattle.std.proofs.lemmas.Option.{IfSome_then}
 use Rattle.op_model.specs.Histories.{History}
-use Rattle.op_model.specs.declared.operation.Operation.{Operation}
-use Rattle.op_model.proofs.Elements.{member_left}
 use Rattle.fold_map.specs.Calls.{IsWithin}
 use Rattle.fold_map.specs.Folds.{FoldState}
+use Rattle.fold_map.proofs.Within.{front_within}
 use Rattle.text_buffer.specs.Buffer.{BufferState}
 use Rattle.text_buffer.specs.Document.{IsFront}
 use Rattle.session_folds.specs.Lines.{after_call}
@@ -21,9 +20,6 @@ use Rattle.session_work.specs.Work.{buffer_of}
 -- what holds of a history holds of what it begins
 abbrev pub Stays : (History → Type 0) → Type 0
 Stays P = (h g : History) → IsFront h g → P h → P g
-
-pub front_within : (h g : History) → IsFront h g → IsWithin h g
-front_within h g f op i = subst (λ (x : History). IsWithin h x) (sym f.1) (λ o j. member_left o h f.0 j) op i
 
 goes_on : (o : Option FoldState) → Stays (λ h. GoesOn h o)
 goes_on None h g f w = tt

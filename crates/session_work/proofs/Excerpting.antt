@@ -7,6 +7,7 @@ use Rattle.std.proofs.lemmas.Bool.{ltb-true}
 use Rattle.std.proofs.lemmas.Option.{cond_some}
 use Rattle.op_model.specs.Histories.{History}
 use Rattle.op_model.specs.declared.operation.Piece.{Piece}
+use Rattle.fold_map.proofs.Within.{front_within}
 use Rattle.multi_buffer.specs.Calls.{IsWithin}
 use Rattle.text_buffer.specs.Buffer.{BufferState}
 use Rattle.session_excerpts.specs.Lines.{after_excerpt, after_sync_of, medit_split}
@@ -26,7 +27,6 @@ use Rattle.session_work.specs.MoreWork.{IsMoreSession, MoreState, index_of, medi
 use Rattle.session_work.specs.Parts.{medit_answer, parts_of, settled_from, with_parts}
 use Rattle.session_work.specs.Room.{HasRoom, HasRoomFor}
 use Rattle.session_work.specs.Work.{State, histories, next_number}
-use Rattle.session_work.proofs.Behind.{front_within}
 use Rattle.session_work.proofs.Buffers.{is_own}
 use Rattle.session_work.proofs.Growth.{as_many}
 use Rattle.session_work.proofs.MoreReports.{text-append, text-plain}

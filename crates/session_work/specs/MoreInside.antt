@@ -9,7 +9,7 @@ use Rattle.session_work.specs.declared.more.MoreProgress.TheInside.{Inside}
 abbrev pub progress_of : Inside → ProgressState
 progress_of p = record { plain = plain_of p.plain; selections = p.selections; folds = p.folds; excerpts = p.excerpts }
 
--- what was taken in of the buffers is behind them, and there are as many as a multibuffer may have
+-- folds and excerpts are of texts that the buffers had or have, and there are fewer than 2^32 buffers
 pub record IsMoreInside (p : Inside) : Type 0 where
   pub few : length p.plain.exchange.buffers < 2 ^ 32
   pub folds : AreBehind p.plain.exchange.buffers p.folds

@@ -8,7 +8,7 @@ use Rattle.session_more.specs.declared.session.MoreSession.{MoreSession}
 use Rattle.session_work.specs.MoreWork.{after_all_more, more_opening}
 use Rattle.session_work.specs.Work.{operation_of}
 
--- the line of each number that these lines take, the first of which is line n, in a session of so many replicas
+-- the line of each number that the lines take, of which the first is line n, in a session of this number of replicas
 abbrev pub lines_from : ℕ → ℕ → List MoreLine → List ℕ
 lines_from replicas n [] = []
 lines_from replicas n (l ∷ ls) = replicate (number_count replicas l) n ++ lines_from replicas (n + 1) ls

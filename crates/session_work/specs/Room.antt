@@ -10,6 +10,6 @@ abbrev pub HasRoomFor : MoreLine → MoreState → Type 0
 HasRoomFor (Excerpt name r start end) s = HasRoomAt name s.excerpts
 HasRoomFor _ s = ⊤
 
--- so many lines more may each make one
+-- n more lines may each make one
 abbrev pub HasRoom : ℕ → MoreState → Type 0
 HasRoom n s = (k : ℕ) × AllHaveAtMost k s.excerpts × (k + n ≤ 2 ^ 20)
