@@ -16,13 +16,11 @@ from sessions.operations import Stamp, is_boundary
 from sessions.replicas import Replica
 
 FILE = Path(__file__).resolve().parent.parent / "crates/fold_map_tests/src/drawn.rt"
-SESSIONS, STEPS = 12, 26
+LISTS, SESSIONS, STEPS = 3, 4, 26
 TEXTS = ["", "", "x", "yé", "⋯", "zz"]
 ELLIPSIS = "⋯".encode()
 HEAD = """//! Sessions of two authors, drawn by chance: what is shown. `tools/fold_rows.py` made the rows from the definitions.
 use crate::rows::{Row, Step};
-
-pub(crate) const ROWS: &[Row] = &[
 """
 
 
@@ -201,9 +199,13 @@ class Session:
         )
 
 
+def rows(seeds: range) -> str:
+    drawn = [Session(random.Random(seed)).row(f"drawn {seed}") for seed in seeds]
+    return f"\npub(crate) const SEEDS_{seeds[0]}_TO_{seeds[-1]}: &[Row] = &[\n" + "".join(drawn) + "];\n"
+
+
 def page() -> str:
-    rows = [Session(random.Random(seed)).row(f"drawn {seed}") for seed in range(SESSIONS)]
-    return HEAD + "".join(rows) + "];\n"
+    return HEAD + "".join(rows(range(first, first + SESSIONS)) for first in range(0, LISTS * SESSIONS, SESSIONS))
 
 
 def main() -> int:

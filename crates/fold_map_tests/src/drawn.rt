@@ -1,7 +1,7 @@
 //! Sessions of two authors, drawn by chance: what is shown. `tools/fold_rows.py` made the rows from the definitions.
 use crate::rows::{Row, Step};
 
-pub(crate) const ROWS: &[Row] = &[
+pub(crate) const SEEDS_0_TO_3: &[Row] = &[
     Row {
         name: "drawn 0",
         base: "😀dacédd😀😀cdc",
@@ -213,6 +213,9 @@ pub(crate) const ROWS: &[Row] = &[
             Step::From((10, None)),
         ],
     },
+];
+
+pub(crate) const SEEDS_4_TO_7: &[Row] = &[
     Row {
         name: "drawn 4",
         base: "ca⋯ddbaaa",
@@ -409,6 +412,9 @@ pub(crate) const ROWS: &[Row] = &[
             Step::From((10, Some((11, 11)))),
         ],
     },
+];
+
+pub(crate) const SEEDS_8_TO_11: &[Row] = &[
     Row {
         name: "drawn 8",
         base: "cdbb⋯aabb",

@@ -375,20 +375,38 @@ fn good_steps_of(rt: &impl Abort, alloc: Global, row: &Row) -> usize {
     good_steps_from(rt, alloc, &mut authors, row)
 }
 
-#[test]
-fn folds_live_through_edits(rt: HostRuntime) {
-    let alloc = rt.alloc();
-    for row in ROWS {
-        let good = good_steps_of(&rt, alloc, row);
-        assert!(rt; good == row.steps.len(), "{}: step {good}", row.name);
+// The row and the step at which rows stop, if they do.
+fn stop(rt: &impl Abort, alloc: Global, rows: &[Row]) -> Option<(usize, usize)> {
+    for (index, row) in rows.iter().enumerate() {
+        let good = good_steps_of(rt, alloc, row);
+        if good < row.steps.len() {
+            return Some((index, good));
+        }
     }
+    None
 }
 
 #[test]
+fn folds_live_through_edits(rt: HostRuntime) {
+    let stop = stop(&rt, rt.alloc(), ROWS);
+    assert!(rt; stop.is_none(), "row and step {stop:?}");
+}
+
+// One test for each list of drawn sessions: a list of all of them is too long for one proof.
+#[test]
 fn drawn_folds_live_through_edits(rt: HostRuntime) {
-    let alloc = rt.alloc();
-    for row in drawn::ROWS {
-        let good = good_steps_of(&rt, alloc, row);
-        assert!(rt; good == row.steps.len(), "{}: step {good}", row.name);
-    }
+    let stop = stop(&rt, rt.alloc(), drawn::SEEDS_0_TO_3);
+    assert!(rt; stop.is_none(), "row and step {stop:?}");
+}
+
+#[test]
+fn more_drawn_folds_live_through_edits(rt: HostRuntime) {
+    let stop = stop(&rt, rt.alloc(), drawn::SEEDS_4_TO_7);
+    assert!(rt; stop.is_none(), "row and step {stop:?}");
+}
+
+#[test]
+fn last_drawn_folds_live_through_edits(rt: HostRuntime) {
+    let stop = stop(&rt, rt.alloc(), drawn::SEEDS_8_TO_11);
+    assert!(rt; stop.is_none(), "row and step {stop:?}");
 }
