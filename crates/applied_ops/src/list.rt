@@ -12,7 +12,7 @@ use lamport_clock::{Lamport, is_same};
 use op_model::Operation;
 use std::alloc::Global;
 use std::marker::Model;
-use sum_tree::SumTree;
+use sum_tree::{Continuation, Nothing, SumTree};
 
 /// The most operations of a list.
 const MOST: u64 = 1 << 40;
@@ -117,6 +117,29 @@ impl AppliedList {
         ensures ok { OnOk result (self.new ≡ self.old ++ op ∷ []) }
         ensures err { OnErr result (self.new ≡ self.old) }
     {
+        self.push_then(alloc, op, &mut Nothing)
+    }
+
+    /// Does what `push` does once a continuation has succeeded: first all is done that may fail, then the continuation
+    /// is run, and then the operation is put last, which does not allocate and cannot fail. The conditions are that of
+    /// `push` and the continuation's own.
+    ///
+    /// # Errors
+    ///
+    /// `OutOfMemory` as of `push`, or if the continuation fails. The operation is then dropped, and the list is as before.
+    pub fn push_then<K: Continuation>(
+        &mut self,
+        alloc: Global,
+        op: Operation,
+        rest: &mut K,
+    ) -> Result<(), OutOfMemory>
+        requires new { operation_at self.old (stamp_of op) ≡ None }
+        requires may { K.may rest.old }
+        ensures ok { OnOk result (self.new ≡ self.old ++ op ∷ []) }
+        ensures err { OnErr result (self.new ≡ self.old) }
+        ensures done { OnOk result (K.done rest.old rest.new) }
+        ensures kept { OnErr result (K.kept rest.old rest.new) }
+    {
         let index = self.operations.len();
         if index >= MOST || self.entries.len() >= MOST {
             return Err(OutOfMemory);
@@ -124,7 +147,7 @@ impl AppliedList {
         let stamp = op.stamp();
         let applied = Applied::new(alloc, op)?;
         self.entries.insert(alloc, StampEntry { stamp, index })?;
-        self.operations.push(alloc, applied)?;
+        self.operations.push_then(alloc, applied, rest)?;
         Ok(())
     }
 }

@@ -35,7 +35,7 @@ key_is a b h =
 abbrev to : IndexEntry → IndexEntry → Ordering
 to x e = key_cmp (key_of e) (key_of x)
 
-self_equal : (x e : IndexEntry) → key_of e ≡ key_of x → to x e ≡ Equal
+pub self_equal : (x e : IndexEntry) → key_of e ≡ key_of x → to x e ≡ Equal
 self_equal x e q = ap (λ k. key_cmp k (key_of x)) q ∙ tied_itself key_order (key_of x)
 
 more_of : (x e : IndexEntry) (w : List IndexEntry) → Member e (with_entry x w) → (e ≡ x) ⊎ (Member e w × (key_of e ≡ key_of x → ⊥))

@@ -1,4 +1,5 @@
 mod Widening
+mod Beside
 mod Stamping
 pub mod Searching
 mod Replacing

@@ -1,5 +1,5 @@
 -- Where a seek for a key stops: at the entry with the greatest offset at most the key's, if the edit has one.
-use Rattle.std.proofs.Common.{◌≡◌, ℕ, suc, ◌+◌, ◌<◌, ◌≤◌, ◌⊎◌, Bool, true, false, cond, List, [], ◌∷◌, length, get_or, slice_get, option_map, refl, sym, ap, ◌∙◌, inl, inr, Option, None, Some, arith, leb, nat_lt}
+use Rattle.std.proofs.Common.{◌≡◌, ℕ, suc, ◌+◌, ◌<◌, ◌≤◌, ◌⊎◌, Bool, true, false, cond, List, [], ◌∷◌, length, get_or, slice_get, refl, sym, ap, ◌∙◌, inl, inr, Option, None, Some, arith, leb, nat_lt}
 use Rattle.std.proofs.lemmas.Bool.{cases_Bool, cases_lt, and_from, and_left, and_parts, both_ways, le-leb, leb-true, le-ltb}
 use Rattle.std.proofs.lemmas.Cmp.{alike_right}
 use Rattle.std.specs.Ordering.{nat_cmp, ordering_then, ordering_reverse, is_lt, is_eq}
@@ -16,7 +16,7 @@ use Rattle.lamport_clock.specs.Stamps.{same_stamp, stamp_cmp, stamp_order}
 use Rattle.lamport_clock.proofs.Order.{is_eq-same, same_Equal, same_both_Equal, less_apart}
 use Rattle.fragments.specs.declared.index_entry.IndexKey.{IndexKey}
 use Rattle.fragments.specs.declared.index_entry.IndexEntry.{IndexEntry}
-use Rattle.fragments.specs.Index.{key_of, key_cmp, key_order, IsAscending, first_from, covers, nearest, entry_for, id_for}
+use Rattle.fragments.specs.Index.{key_of, key_cmp, key_order, IsAscending, first_from, covers, nearest, entry_for}
 use Rattle.undo_map.proofs.Seeking.{key_less_next}
 use Rattle.locators.proofs.Between.{nat_cmp-below, nat_cmp-Less}
 
@@ -57,7 +57,7 @@ pub same_edit : (a b : IndexKey) → same_stamp a.stamp b.stamp ≡ true → key
 same_edit a b s = ap (λ (c : Ordering). ordering_then c (nat_cmp b.offset.0 a.offset.0)) (same_Equal a.stamp b.stamp s)
 
 -- an entry whose key is less than the cell's does not cover the cell
-past_covers : (t : Lamport) (o : ℕ) (e : IndexEntry) → less (key_of e) (at t o) ≡ true → covers t o e ≡ false
+pub past_covers : (t : Lamport) (o : ℕ) (e : IndexEntry) → less (key_of e) (at t o) ≡ true → covers t o e ≡ false
 past_covers t o e l = elim (cases_Bool (covers t o e)) [
   | inr f ↦ f
   | inl c ↦ (let k = and_parts (same_stamp e.stamp t) (leb e.offset o) c in
@@ -73,21 +73,21 @@ up_to_covers t o e l s = elim (cases_lt o e.offset) [
 ]
 
 -- what comes after an entry
-abbrev Behind : IndexEntry → List IndexEntry → Type 0
+abbrev pub Behind : IndexEntry → List IndexEntry → Type 0
 Behind x w = (j : ℕ) (d : IndexEntry) → j < length w → key_cmp (key_of x) (key_of (get_or w j d)) ≡ Less
 
-behind_first : (x : IndexEntry) (w : List IndexEntry) → IsAscending (x ∷ w) → Behind x w
+pub behind_first : (x : IndexEntry) (w : List IndexEntry) → IsAscending (x ∷ w) → Behind x w
 behind_first x w a = λ j d l. a 0 (suc j) d (omega arith) (omega arith)
 
 behind_rest : (x y : IndexEntry) (w : List IndexEntry) → Behind x (y ∷ w) → Behind x w
 behind_rest x y w a = λ j d l. a (suc j) d (omega arith)
 
 -- no entry has a greater offset than x
-abbrev NoneNearer : IndexEntry → Option IndexEntry → Type 0
+abbrev pub NoneNearer : IndexEntry → Option IndexEntry → Type 0
 NoneNearer x None = Unit {0}
 NoneNearer x (Some y) = nat_lt x.offset y.offset ≡ false
 
-nearest_first : (x : IndexEntry) (o : Option IndexEntry) → NoneNearer x o → nearest x o ≡ x
+pub nearest_first : (x : IndexEntry) (o : Option IndexEntry) → NoneNearer x o → nearest x o ≡ x
 nearest_first x None h = refl
 nearest_first x (Some y) h = rw h refl
 
@@ -95,11 +95,11 @@ nearer : (x y : IndexEntry) (o : Option IndexEntry) → nat_lt x.offset y.offset
 nearer x y None l h = l
 nearer x y (Some z) l h = elim (cases_Bool (nat_lt y.offset z.offset)) [ inl e ↦ rw e h | inr e ↦ rw e l ]
 
-not_below : (a b : ℕ) → b < a → nat_lt a b ≡ false
+pub not_below : (a b : ℕ) → b < a → nat_lt a b ≡ false
 not_below a b l = le-ltb a b (omega arith)
 
 -- of the entries of an edit after one of its entries, none has a greater offset
-none_nearer : (t : Lamport) (o : ℕ) (x : IndexEntry) (w : List IndexEntry) → same_stamp x.stamp t ≡ true → Behind x w → NoneNearer x (entry_for t o w)
+pub none_nearer : (t : Lamport) (o : ℕ) (x : IndexEntry) (w : List IndexEntry) → same_stamp x.stamp t ≡ true → Behind x w → NoneNearer x (entry_for t o w)
 none_nearer t o x [] s b = tt
 none_nearer t o x (y ∷ w) s b = elim (cases_Bool (covers t o y)) [
   | inr c ↦ rw c (none_nearer t o x w s (behind_rest x y w b))
@@ -157,15 +157,15 @@ of_same t e s = rw s refl
 of_other : (t : Lamport) (e : IndexEntry) → same_stamp e.stamp t ≡ false → of_edit t (Some e) ≡ None
 of_other t e s = rw s refl
 
-found : (t : Lamport) (o : ℕ) (w v : List IndexEntry) (r found : Option IndexEntry) → IsAscending w → w ≡ v → r ≡ first_from (at t o) w → of_edit t r ≡ found → option_map (λ (e : IndexEntry). e.id) found ≡ id_for t o v
-found t o w v r f a q h e = ap (option_map (λ (x : IndexEntry). x.id)) (sym e ∙ ap (of_edit t) h ∙ front_entry t o w a ∙ ap (entry_for t o) q)
+found : (t : Lamport) (o : ℕ) (w : List IndexEntry) (r found : Option IndexEntry) → IsAscending w → r ≡ first_from (at t o) w → of_edit t r ≡ found → found ≡ entry_for t o w
+found t o w r f a h e = sym e ∙ ap (of_edit t) h ∙ front_entry t o w a
 
 -- an entry of the edit, another edit's, and none
-pub found_same : (t : Lamport) (o : ℕ) (w v : List IndexEntry) (e : IndexEntry) → IsAscending w → w ≡ v → Some e ≡ first_from (at t o) w → same_stamp e.stamp t ≡ true → Some e.id ≡ id_for t o v
-found_same t o w v e a q h s = found t o w v (Some e) (Some e) a q h (of_same t e s)
+pub front_same : (t : Lamport) (o : ℕ) (w : List IndexEntry) (e : IndexEntry) → IsAscending w → Some e ≡ first_from (at t o) w → same_stamp e.stamp t ≡ true → Some e ≡ entry_for t o w
+front_same t o w e a h s = found t o w (Some e) (Some e) a h (of_same t e s)
 
-pub found_other : (t : Lamport) (o : ℕ) (w v : List IndexEntry) (e : IndexEntry) → IsAscending w → w ≡ v → Some e ≡ first_from (at t o) w → same_stamp e.stamp t ≡ false → None ≡ id_for t o v
-found_other t o w v e a q h s = found t o w v (Some e) None a q h (of_other t e s)
+pub front_other : (t : Lamport) (o : ℕ) (w : List IndexEntry) (e : IndexEntry) → IsAscending w → Some e ≡ first_from (at t o) w → same_stamp e.stamp t ≡ false → None ≡ entry_for t o w
+front_other t o w e a h s = found t o w (Some e) None a h (of_other t e s)
 
-pub found_none : (t : Lamport) (o : ℕ) (w v : List IndexEntry) → IsAscending w → w ≡ v → None ≡ first_from (at t o) w → None ≡ id_for t o v
-found_none t o w v a q h = found t o w v None None a q h refl
+pub front_none : (t : Lamport) (o : ℕ) (w : List IndexEntry) → IsAscending w → None ≡ first_from (at t o) w → None ≡ entry_for t o w
+front_none t o w a h = found t o w None None a h refl

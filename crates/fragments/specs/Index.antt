@@ -1,5 +1,5 @@
 -- An index of fragments: entries ascending by stamp, then descending by offset.
-use Rattle.std.specs.Prelude.{ℕ, nat_le, nat_lt, Bool, ◌&&◌, if◌then◌else◌, List, [], ◌∷◌, Option, Some, None, option_map}
+use Rattle.std.specs.Prelude.{ℕ, ◌==◌, nat_le, nat_lt, Bool, false, ◌&&◌, if◌then◌else◌, List, [], ◌∷◌, Option, Some, None, option_map}
 use Rattle.std.specs.Ordering.{nat_cmp, ordering_then}
 use Rattle.std.specs.Cmp.{IsTotalOrder}
 use Rattle.std.specs.declared.cmp.Ordering.{Ordering}
@@ -26,6 +26,11 @@ IsAscending w = Ascending key_cmp key_of w
 abbrev pub with_entry : IndexEntry → List IndexEntry → List IndexEntry
 with_entry e w = insert_item key_cmp key_of e w
 
+-- w with entries, one after the other
+abbrev pub with_entries : List IndexEntry → List IndexEntry → List IndexEntry
+with_entries [] w = w
+with_entries (e ∷ es) w = with_entries es (with_entry e w)
+
 -- the entry begins at cell o of edit t or before it
 abbrev pub covers : Lamport → ℕ → IndexEntry → Bool
 covers t o e = same_stamp e.stamp t && nat_le e.offset o
@@ -50,6 +55,15 @@ id_for t o w = option_map (λ e. e.id) (entry_for t o w)
 abbrev pub first_from : IndexKey → List IndexEntry → Option IndexEntry
 first_from k [] = None
 first_from k (e ∷ w) = if cmp_less key_cmp (key_of e) k then first_from k w else Some e
+
+-- an entry, if it covers cell o of edit t and the other one has no greater offset; otherwise the other one
+abbrev pub entry_or : Lamport → ℕ → IndexEntry → Option IndexEntry → Option IndexEntry
+entry_or t o e r = if covers t o e then Some (nearest e r) else r
+
+-- the entry begins at cell o
+abbrev pub starts_at : ℕ → Option IndexEntry → Bool
+starts_at o None = false
+starts_at o (Some e) = e.offset == o
 
 -- ---- the order of keys is total
 

@@ -3,12 +3,13 @@ ghost use Rattle.std.specs.Prelude.{◌≡◌, ◌+◌, ◌^◌, ◌≤◌, ◌<
 ghost use Rattle.std.specs.Option.{option_copied};
 ghost use Rattle.std.specs.List.{filter, find};
 ghost use Rattle.fragments.specs.declared.index_entry.IndexEntry.{IndexEntry};
-ghost use Rattle.fragments.specs.Index.{with_entry, id_for, first_from};
+ghost use Rattle.fragments.specs.Index.{IsAscending, with_entry, with_entries, entry_for, entry_or, id_for, first_from, starts_at};
 ghost use Rattle.fragments.specs.DeletedRuns.{AreNumbered, few_runs, with_insertion, delete_run, is_run_of, is_below, run_from};
 
 use crate::OutOfMemory;
 use crate::deleted_run::DeletedRun;
 use crate::index_entry::{IndexEntry, IndexKey};
+use crate::recent::RecentEntries;
 use lamport_clock::{Lamport, is_same};
 use locators::Locator;
 use std::alloc::Global;
@@ -22,22 +23,29 @@ const MOST_RUNS: u64 = 1 << 40;
 
 /// The ids of fragments, by the cell that each begins with, and the runs of cells that edits deleted. Contracts see the
 /// list of its entries, ascending by stamp, then descending by offset, and that of its runs, ascending by the edit that
-/// deleted them, then descending by number.
+/// deleted them, then descending by number. The entries that were added last lie in a short list beside the tree of the
+/// others, so most additions change no node.
 #[derive(Drop)]
 pub struct InsertionIndex {
     entries: SumTree<IndexEntry>,
+    recent: RecentEntries,
     deletions: SumTree<DeletedRun>,
 }
 
 impl Model for InsertionIndex {
-    ghost use Rattle.fragments.specs.Index.{IsAscending};
+    ghost use Rattle.std.specs.Prelude.{◌^◌, ◌≤◌, length};
+    ghost use Rattle.fragments.specs.Index.{IsAscending, with_entries};
     ghost use Rattle.fragments.specs.DeletedRuns.{IndexState, AreNumbered};
 
     ghost Value = { IndexState };
 
-    ghost view = { λ m. record { entries = m.entries.items; deletions = m.deletions.items } };
+    ghost view = { λ m. record {
+      entries = with_entries m.recent m.entries.items;
+      deletions = m.deletions.items;
+    } };
 
-    ghost invariant = { λ m. IsAscending m.entries.items × AreNumbered m.deletions.items };
+    ghost invariant = { λ m. IsAscending m.entries.items × AreNumbered m.deletions.items
+        × (length (with_entries m.recent m.entries.items) ≤ 2 ^ 40) };
 }
 
 impl InsertionIndex {
@@ -46,8 +54,13 @@ impl InsertionIndex {
         ensures { IfOk result (λ m. m ≡ record { entries = []; deletions = [] }) }
     {
         let entries = SumTree::new(alloc)?;
+        let recent = RecentEntries::new(alloc)?;
         let deletions = SumTree::new(alloc)?;
-        Ok(InsertionIndex { entries, deletions })
+        Ok(InsertionIndex {
+            entries,
+            recent,
+            deletions,
+        })
     }
 
     /// Another index with the same entries and runs, in constant time; nothing is copied. Fails only if `Arc` cannot
@@ -56,15 +69,32 @@ impl InsertionIndex {
         ensures { IfOk result (λ m. m ≡ self.now) }
     {
         let entries = self.entries.share()?;
+        let recent = self.recent.share()?;
         let deletions = self.deletions.share()?;
-        Ok(InsertionIndex { entries, deletions })
+        Ok(InsertionIndex {
+            entries,
+            recent,
+            deletions,
+        })
     }
 
-    /// The number of entries. O(1), does not allocate.
+    /// The number of entries. O(log n), does not allocate.
     pub fn len(&self) -> u64
         ensures { result ≡ length self.now.entries }
     {
-        self.entries.len()
+        count(&self.entries, self.recent.as_slice())
+    }
+
+    /// Makes room for a few additions: if the list of the last entries has room for less than three, they go into the
+    /// tree, in place where no other index shares the nodes. O(log n).
+    ///
+    /// # Errors
+    ///
+    /// Fails only if an allocation fails.
+    pub fn make_room(&mut self, alloc: Global) -> Result<(), OutOfMemory>
+        ensures { self.new ≡ self.old }
+    {
+        self.recent.make_room(alloc, 3, &mut self.entries)
     }
 
     /// Sets the id of the fragment that begins with cell `offset` of an edit, and replaces the one set for that cell
@@ -86,27 +116,21 @@ impl InsertionIndex {
             ≡ with_insertion (record { stamp = stamp; offset = offset; id = id }) self.old) }
         ensures err { OnErr result (self.new ≡ self.old) }
     {
-        self.entries
-            .insert(alloc, IndexEntry { stamp, offset, id })?;
+        self.recent.make_room(alloc, 1, &mut self.entries)?;
+        self.recent.push(alloc, IndexEntry { stamp, offset, id })?;
         Ok(())
     }
 
     /// The id of the fragment that has cell `offset` of an edit, if there is one: that of the edit's entry with the
-    /// greatest offset that is at most this one. One descent, O(log n). Does not allocate.
+    /// greatest offset that is at most this one. One descent, and a look at 12 entries at most: O(log n). Does not
+    /// allocate.
     pub fn find(&self, stamp: Lamport, offset: u64) -> Option<&Locator>
         ensures { option_copied result ≡ id_for stamp offset self.now.entries }
     {
-        let key = IndexKey {
-            stamp,
-            offset: Reverse(offset),
-        };
-        let Some(entry) = first_from(&self.entries, key) else {
-            return None;
-        };
-        if is_same(entry.stamp, stamp) {
-            return Some(&entry.id);
+        match entry_for(&self.entries, self.recent.as_slice(), stamp, offset) {
+            Some(entry) => Some(&entry.id),
+            None => None,
         }
-        None
     }
 
     /// Adds a run of `len` cells of the edit `stamp`, from its cell `offset` on, that the edit `edit` deleted. An index
@@ -167,6 +191,93 @@ impl InsertionIndex {
             below = run.number;
         }
         Ok(runs)
+    }
+}
+
+// The number of entries in a tree with those of a list put into it.
+fn count(entries: &SumTree<IndexEntry>, recent: &[IndexEntry]) -> u64
+    requires ascending { IsAscending entries.now.items }
+    requires short { length (with_entries recent.now entries.now.items) ≤ 2 ^ 40 }
+    ensures { result ≡ length (with_entries recent.now entries.now.items) }
+{
+    let mut count = entries.len();
+    for i in 0..recent.len() {
+        count += added_by(entries, &recent[..i], &recent[i]);
+    }
+    count
+}
+
+// How many entries there are more with this one in a tree with entries of a list put into it: none if it replaces one.
+fn added_by(entries: &SumTree<IndexEntry>, recent: &[IndexEntry], entry: &IndexEntry) -> u64
+    requires { IsAscending entries.now.items }
+    ensures { length (with_entries recent.now entries.now.items) + result
+        ≡ length (with_entry entry.now (with_entries recent.now entries.now.items)) }
+{
+    let found = entry_for(entries, recent, entry.stamp, entry.offset);
+    if starts_at(found, entry.offset) { 0 } else { 1 }
+}
+
+// Whether an entry was found that begins at this cell.
+fn starts_at(found: Option<&IndexEntry>, offset: u64) -> bool
+    ensures { result ≡ starts_at offset (option_copied found.entry) }
+{
+    match found {
+        Some(entry) => entry.offset == offset,
+        None => false,
+    }
+}
+
+// The entry of an edit with the greatest offset that is at most this one, in a tree with entries of a list put into it.
+fn entry_for<'a>(
+    entries: &'a SumTree<IndexEntry>,
+    recent: &'a [IndexEntry],
+    stamp: Lamport,
+    offset: u64,
+) -> Option<&'a IndexEntry>
+    requires { IsAscending entries.now.items }
+    ensures { option_copied result
+        ≡ entry_for stamp offset (with_entries recent.now entries.now.items) }
+{
+    let mut found = entry_in(entries, stamp, offset);
+    for entry in recent {
+        found = nearer(entry, found, stamp, offset);
+    }
+    found
+}
+
+// The same in the tree alone.
+fn entry_in(entries: &SumTree<IndexEntry>, stamp: Lamport, offset: u64) -> Option<&IndexEntry>
+    requires { IsAscending entries.now.items }
+    ensures { option_copied result ≡ entry_for stamp offset entries.now.items }
+{
+    let key = IndexKey {
+        stamp,
+        offset: Reverse(offset),
+    };
+    let Some(entry) = first_from(entries, key) else {
+        return None;
+    };
+    if is_same(entry.stamp, stamp) {
+        return Some(entry);
+    }
+    None
+}
+
+// Of an entry and one found before it, the nearer one to this cell.
+fn nearer<'a>(
+    entry: &'a IndexEntry,
+    found: Option<&'a IndexEntry>,
+    stamp: Lamport,
+    offset: u64,
+) -> Option<&'a IndexEntry>
+    ensures { option_copied result ≡ entry_or stamp offset entry.now (option_copied found.entry) }
+{
+    if !is_same(entry.stamp, stamp) || offset < entry.offset {
+        return found;
+    }
+    match found {
+        Some(other) if entry.offset < other.offset => found,
+        _ => Some(entry),
     }
 }
 

@@ -11,6 +11,7 @@ mod fragment;
 mod index;
 mod index_entry;
 mod laws;
+mod recent;
 mod spans;
 mod stamps;
 

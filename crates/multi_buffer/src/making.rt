@@ -56,14 +56,16 @@ pub(crate) fn excerpt_of(buffer: u32, snapshot: &Snapshot, start: u64, end: u64)
 
 // Whether two anchors are the same.
 fn is_same(a: &Anchor, b: &Anchor) -> bool
-    ensures { result ≡ true → a.now ≡ b.now }
+    ensures same { result ≡ true → a.now ≡ b.now }
+    ensures other { result ≡ false → a.now ≡ b.now → ⊥ }
 {
     a == b
 }
 
 /// Whether two excerpts are not the same.
 pub(crate) fn differs(a: &Excerpt, b: &Excerpt) -> bool
-    ensures { result ≡ false → a.now ≡ b.now }
+    ensures other { result ≡ true → a.now ≡ b.now → ⊥ }
+    ensures same { result ≡ false → a.now ≡ b.now }
 {
     a.buffer != b.buffer
         || a.start != b.start

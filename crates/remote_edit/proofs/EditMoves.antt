@@ -36,7 +36,7 @@ module _ (w : List UndoEntry) (t : Lamport) where
     | inr e ↦ e
   ])
 
-  same_undeleted : (f : Fragment) → IsByCounts w f → list_any (same_stamp t) f.deletions ≡ false → without_deletion w t f ≡ f
+  pub same_undeleted : (f : Fragment) → IsByCounts w f → list_any (same_stamp t) f.deletions ≡ false → without_deletion w t f ≡ f
   same_undeleted f s n =
       let one : List Lamport → Fragment = λ d. record { id = f.id; stamp = f.stamp; offset = f.offset; len = f.len; visible = is_shown w f.stamp d; deletions = d; max_undos = f.max_undos } in
       let two : Bool → Fragment = λ b. record { id = f.id; stamp = f.stamp; offset = f.offset; len = f.len; visible = b; deletions = f.deletions; max_undos = f.max_undos } in
@@ -63,7 +63,7 @@ module _ (w : List UndoEntry) (t : Lamport) where
     pub brings : Brings t k m ahead
     pub carry : CarryOn t [] [] (before_edit w t fs) 0 ms pre (before_edit w t ahead) k
 
-  step : (m : ℕ) (fs : List Fragment) (before ahead : List Fragment) (x : Fragment) (ms : List Move) (k : ℕ) → Brings t k m (x ∷ ahead)
+  pub step : (m : ℕ) (fs : List Fragment) (before ahead : List Fragment) (x : Fragment) (ms : List Move) (k : ℕ) → Brings t k m (x ∷ ahead)
       → CarryOn t [] [] (before_edit w t fs) 0 ms before (before_edit w t (x ∷ ahead)) k → Stepped m fs (with_move ms (edit_move w t x)) (before ++ x ∷ []) ahead
   step m fs before ahead x ms k i c = go (same_stamp t x.stamp) refl i c
     where

@@ -29,7 +29,7 @@ use Rattle.fragments.specs.Stand.{runs, Tell, IsFilled, Stand}
 use Rattle.remote_edit.specs.Marks.{is_shown, marking}
 use Rattle.remote_edit.specs.Walk.{walk}
 use Rattle.remote_edit.specs.Indexes.{EndsBefore}
-use Rattle.remote_edit.specs.BeforeEdit.{before_edit, IsByCounts, runs_by, InOrder, Brings}
+use Rattle.remote_edit.specs.BeforeEdit.{before_edit, IsByCounts, runs_by, InOrder, Brings, IsUntouched}
 use Rattle.remote_edit.proofs.Marks.{is_told}
 use Rattle.remote_edit.proofs.Changing.{changing}
 use Rattle.remote_edit.proofs.Runs.{walk_as}
@@ -74,6 +74,14 @@ module _ (h : History) (t : Lamport) (l : Lawful h) (fresh : AllByRecursion (λ 
     others u fs f.1 b.1 d.1 s.1,
   )
 
+  untouched_each : (u : List UndoEntry) (fs : List Fragment) → AllByRecursion IsFilled fs → AllByRecursion (EndsBefore t 0) fs → AllByRecursion (λ (f : Fragment). list_any (same_stamp t) f.deletions ≡ false) fs → AllByRecursion (IsByCounts u) fs
+      → AllByRecursion (IsUntouched u t) fs
+  untouched_each u [] f b d s = tt
+  untouched_each u (x ∷ xs) f b d s = (
+    record { other = not_same x.stamp (λ e. let k = b.0 e in let n = f.0.0 in absurd (omega (arith, k, n))); free = d.0; shown = s.0 },
+    untouched_each u xs f.1 b.1 d.1 s.1,
+  )
+
 module _ (h : History) (op : Operation) (u : List UndoEntry) (fs : List Fragment) (i : IndexState) (s : Stand fs i u h) (l : Lawful h) (g : answer h [] op ≡ Good) where
   abbrev t : Lamport
   t = stamp_of op
@@ -89,6 +97,9 @@ module _ (h : History) (op : Operation) (u : List UndoEntry) (fs : List Fragment
 
   old : AllByRecursion (IsOld u t) (runs fs)
   old = others h t l fits.fresh u fs s.filled (indexed_start fs i u h op s l g).entered.before (undeleted_all h t l fits.fresh fs s.filled s.cells) (shown_by_counts h u fs s.counts s.filled s.cells)
+
+  pub untouched : AllByRecursion (IsUntouched u t) fs
+  untouched = untouched_each h t l fits.fresh u fs s.filled (indexed_start fs i u h op s l g).entered.before (undeleted_all h t l fits.fresh fs s.filled s.cells) (shown_by_counts h u fs s.counts s.filled s.cells)
 
   pub placed_runs : runs placed_fragments ≡ W.walk (marking u t v) (sees v) t 0 0 (changing (pieces_of op)) (runs fs)
   placed_runs = walk_as u t v (λ x. passed_unseen v t x fits.above) 0 0 (pieces_of op) [] fs

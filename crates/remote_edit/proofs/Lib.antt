@@ -36,11 +36,16 @@ pub mod Making
 pub mod BeforeEdit
 pub mod EditMoves
 pub mod EditTexts
+pub mod RangeMoves
+pub mod Planned
 pub mod WholeFragments
 pub mod UndoCharacters
 pub mod Starts
 pub mod Unasked
+pub mod Stops
+pub mod Ends
 pub mod Intake
+pub mod OnePiece
 pub mod OneFurther
 pub mod PieceStarts
 pub mod Budget

@@ -88,6 +88,9 @@ module _ (v : Entries) (goal : ℕ) where
         subst (Gone t n pre (f ∷ fs)) (sym q) (gone_more t n (sought (n + own v f) fs) pre fs f h l (gone t (n + own v f) (pre ++ f ∷ []) fs l)))
   ]
 
+  pub sought_low : (t : Lamport) (n : ℕ) (pre fs : List Fragment) → n < goal → n + seen_bytes v (take (sought n fs) fs) < goal
+  sought_low t n pre fs h = (gone t n pre fs h).low
+
   -- the goal is in the first, with n cells before it
   abbrev pub IsIn : ℕ → List Fragment → Type 0
   IsIn n [] = Unit {0}
@@ -131,6 +134,14 @@ module _ (v : Entries) (goal : ℕ) where
         },
         (omega arith, (omega (arith, is), subst (IsIn (seen_bytes v (take k xs))) (sym dk) (subst (λ (m : ℕ). IsIn m (drop j d)) (sym kk) (stop place d)))),
       )
+
+-- fewer cells lie before the stop
+pub seek_low : (v : Entries) (goal : ℕ) (xs : List Fragment) (k : ℕ) → 0 < goal → k ≡ seen_stop v goal xs → seen_bytes v (take k xs) < goal
+seek_low v goal xs k h e =
+    let t : Lamport = record { value = 0; replica = 0 } in
+    let g = sought_low v goal t 0 [] xs h in
+    let z : 0 + seen_bytes v (take (seen_stop v goal xs) xs) ≡ seen_bytes v (take (seen_stop v goal xs) xs) = omega arith in
+    subst (λ (j : ℕ). seen_bytes v (take j xs) < goal) (sym e) (omega (arith, z, g))
 
 -- what a seek gives
 pub found : (t : Lamport) (v : Entries) (xs : List Fragment) (n i place index bytes : ℕ) → index ≡ seen_stop v (place + n) xs → bytes ≡ seen_bytes v (take index xs)

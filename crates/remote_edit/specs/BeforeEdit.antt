@@ -1,6 +1,6 @@
 -- Fragments as they were before an edit: without its cells, and without its deletions.
-use Rattle.std.specs.Prelude.{◌≡◌, ℕ, ◌+◌, true, not, if◌then◌else◌, List, [], ◌∷◌}
-use Rattle.std.specs.List.{filter}
+use Rattle.std.specs.Prelude.{◌≡◌, ℕ, ◌+◌, true, false, not, if◌then◌else◌, List, [], ◌∷◌}
+use Rattle.std.specs.List.{filter, list_any}
 use Rattle.lamport_clock.specs.declared.stamp.Lamport.{Lamport}
 use Rattle.lamport_clock.specs.Stamps.{same_stamp}
 use Rattle.op_model.specs.Walked.{Run}
@@ -10,6 +10,7 @@ use Rattle.fragments.specs.Stand.{runs}
 use Rattle.remote_edit.specs.declared.moves.Move.{Move}
 use Rattle.remote_edit.specs.declared.moves.Move.TheVariants.{Insert}
 use Rattle.remote_edit.specs.Marks.{is_shown}
+use Rattle.remote_edit.specs.Moves.{with_move}
 use Rattle.remote_edit.specs.Carried.{move_for}
 
 -- stamps without that of edit t
@@ -55,3 +56,14 @@ InOrder k m (r ∷ rs) = (r.visible ≡ true) × (r.offset ≡ k) × InOrder (k 
 -- the cells of edit t in fragments are shown, and are k..m in order
 abbrev pub Brings : Lamport → ℕ → ℕ → List Fragment → Type 0
 Brings t k m fs = InOrder k m (runs_by t (runs fs))
+
+-- edit t neither inserted nor deletes a fragment's cells, and undo counts w show it as it is
+pub record IsUntouched (w : List UndoEntry) (t : Lamport) (f : Fragment) : Type 0 where
+  pub other : same_stamp t f.stamp ≡ false
+  pub free : list_any (same_stamp t) f.deletions ≡ false
+  pub shown : IsByCounts w f
+
+-- the moves ms, then those of the bytes of fragments in edit t, one by one
+abbrev pub each_move : List UndoEntry → Lamport → List Move → List Fragment → List Move
+each_move w t ms [] = ms
+each_move w t ms (f ∷ fs) = each_move w t (with_move ms (edit_move w t f)) fs

@@ -25,3 +25,5 @@ pub mod Finds
 pub mod Looks
 pub mod FindLaws
 pub mod UndoMoves
+pub mod Places
+pub mod Changes

@@ -33,3 +33,8 @@ pub record IsFew (v : Entries) (xs : List Fragment) (g : Gather) (n : ℕ) (g2 :
 -- most 1 + c are replaced by at most c + 4
 abbrev pub MakeFew : ℕ → ℕ → ℕ → ℕ → ℕ → Type 0
 MakeFew old new low high n = (c : ℕ) → high ≤ low + (1 + c) → n ≤ c + 4 → new ≤ old + 256 * (1 + c)
+
+-- fragments that a gather of the range a..b made cost few steps in the place of those that it took
+abbrev pub TakeFew : List Fragment → ℕ → ℕ → Gather → Type 0
+TakeFew fs a b g = (old new : ℕ) → MakeFew old new g.from g.at (length g.made.items + length (option_to_list g.back))
+    → new ≤ old + 256 * (1 + starts (max 1 a) (a + (b - a)) fs)

@@ -1,5 +1,5 @@
 -- Steps of the walk over a tree.
-use Rattle.std.specs.Prelude.{◌≡◌, ℕ, ◌+◌, ◌<◌, ◌≤◌, ◌&&◌, not, Bool, false, List, [], ◌∷◌, ◌++◌, length, take, drop, Option, Some, None, option_to_list}
+use Rattle.std.specs.Prelude.{◌≡◌, ℕ, ◌+◌, ◌<◌, ◌≤◌, ◌&&◌, not, Bool, false, List, [], ◌∷◌, ◌++◌, ◌⊎◌, length, take, drop, Option, Some, None, option_to_list}
 use Rattle.lamport_clock.specs.declared.stamp.Lamport.{Lamport}
 use Rattle.lamport_clock.specs.Stamps.{later}
 use Rattle.lamport_clock.specs.Versions.{Entries, sees}
@@ -59,3 +59,7 @@ pub record IsSought (t : Lamport) (v : Entries) (xs : List Fragment) (n : ℕ) (
   pub goes : advance None t v k (take j xs) (drop j xs) ≡ advance None t v n (take i xs) (drop i xs)
   pub within : j ≤ length xs
   pub place : p ≡ seen_bytes v (take j xs)
+
+-- where a seek over n cells stops: at the fragment that has the last of them, or after it if they end with it
+abbrev pub IsStop : Entries → ℕ → List Fragment → ℕ → Type 0
+IsStop v n fs i = (i ≡ seen_stop v n fs) ⊎ ((i ≡ seen_stop v n fs + 1) × (seen_bytes v (take i fs) ≡ n))

@@ -1,8 +1,9 @@
 //! Numbers of cells before a place in a walk over fragments.
+ghost use Rattle.std.specs.Prelude.{◌≡◌, ◌+◌, ◌≤◌, if◌then◌else◌};
 ghost use Rattle.remote_edit.specs.Passed.{move_passed, IsLaterPassed, PassedFits, move_seen, IsLaterSeen, SeenFits};
 ghost use Rattle.remote_edit.specs.PassedLaws.{passed_laws, seen_laws};
 
-use fragments::{FragmentSummary, Full, Sight, Visible};
+use fragments::{Fragment, FragmentSummary, Full, Sight, Visible};
 use lamport_clock::Version;
 use tree_cursor::{Bias, Dimension, Moves, Plain, Target};
 
@@ -11,6 +12,29 @@ use tree_cursor::{Bias, Dimension, Moves, Plain, Target};
 pub struct Passed {
     pub visible: u64,
     pub hidden: u64,
+}
+
+impl Passed {
+    // These numbers without the cells of a fragment.
+    pub(crate) fn without(self, fragment: &Fragment) -> Passed
+        requires visible { (if fragment.now.visible then fragment.now.len else 0) ≤ self.visible }
+        requires hidden { (if fragment.now.visible then 0 else fragment.now.len) ≤ self.hidden }
+        ensures visible { result.visible
+            + (if fragment.now.visible then fragment.now.len else 0) ≡ self.visible }
+        ensures hidden { result.hidden
+            + (if fragment.now.visible then 0 else fragment.now.len) ≡ self.hidden }
+    {
+        if fragment.visible {
+            return Passed {
+                visible: self.visible - fragment.len,
+                hidden: self.hidden,
+            };
+        }
+        Passed {
+            visible: self.visible,
+            hidden: self.hidden - fragment.len,
+        }
+    }
 }
 
 impl Plain for Passed {

@@ -106,9 +106,9 @@ fn place_with<L: Ledger>(
     place_edit(alloc, tree, index, undos, op, &mut steps)
 }
 
-// Does what `place_remote_into` does, and counts a step for each node of the tree that is made. If the edit has seen
-// all fragments, there are at most 256 for each piece and each fragment that the ranges touch.
-fn place_edit<L: Ledger>(
+/// Does what `place_remote_into` does, and counts a step for each node of the tree that is made. If the edit has seen
+/// all fragments, there are at most 256 for each piece and each fragment that the ranges touch.
+pub fn place_edit<L: Ledger>(
     alloc: Global,
     tree: SumTree<Fragment>,
     index: InsertionIndex,

@@ -1,5 +1,5 @@
 //! One walk over a tree of fragments, from the first piece of an edit to the last.
-ghost use Rattle.std.specs.Prelude.{◌≡◌, ℕ, ◌+◌, ◌-◌, ◌*◌, ◌<◌, ◌≤◌, ◌^◌, ◌++◌, false, [], length, take, drop, max, IfOk, option_to_list};
+ghost use Rattle.std.specs.Prelude.{◌≡◌, ℕ, ◌+◌, ◌-◌, ◌*◌, ◌<◌, ◌≤◌, ◌^◌, ◌++◌, false, [], length, take, drop, max, IfOk, OnErr, OnOk, option_to_list};
 ghost use Rattle.lamport_clock.specs.Versions.{Entries, sees};
 ghost use Rattle.op_model.specs.Operations.{text_total};
 ghost use Rattle.op_model.specs.Walked.{Ordered};
@@ -7,14 +7,15 @@ ghost use Rattle.fragments.specs.Laws.{cells_len};
 ghost use Rattle.sum_tree.specs.Spliced.{splice_list};
 ghost use Rattle.remote_edit.specs.Indexes.{IsIndexed};
 ghost use Rattle.remote_edit.specs.Walk.{seen_bytes, Fit, one_piece, changes, walk};
-ghost use Rattle.remote_edit.specs.Steps.{before, after, seen_stop, IsSought, IsAt};
+ghost use Rattle.remote_edit.specs.Steps.{before, after, IsSought, IsAt, IsStop};
+ghost use Rattle.remote_edit.specs.Places.{IsAfter};
 ghost use Rattle.remote_edit.specs.Gathers.{so_far, ahead};
 ghost use Rattle.remote_edit.specs.Costs.{touch_count_behind};
-ghost use Rattle.remote_edit.specs.Starts.{AllSeen, starts, IsLeft, MakeFew};
+ghost use Rattle.remote_edit.specs.Starts.{AllSeen, starts, IsLeft, MakeFew, TakeFew};
 
-use crate::OutOfMemory;
 use crate::gather::Gather;
-use fragments::{Fragment, Full, FullAt, InsertionIndex, Sight};
+use crate::{OutOfMemory, Passed, SeenPassed};
+use fragments::{Fragment, Full, InsertionIndex, Sight};
 use lamport_clock::Version;
 use op_model::{EditOp, Piece};
 use std::alloc::Global;
@@ -25,6 +26,15 @@ use undo_map::UndoMap;
 
 // The greatest number of cells of a tree.
 const MOST_CELLS: u64 = 1 << 40;
+
+// Where a seek stops, after a fragment that ends there: the number of fragments before it, that of their cells that a
+// version sees, and those of their shown and of their hidden cells.
+#[derive(Clone, Copy)]
+struct Stop {
+    at: u64,
+    place: u64,
+    passed: Passed,
+}
 
 /// The state of an edit on its way over all fragments: the tree and its index so far, and the numbers of the fragments
 /// passed (`at`), of the cells of these that the edit's version sees (`place`), and of those that are the edit's own
@@ -39,9 +49,10 @@ pub struct Walk {
 }
 
 impl Walk {
-    // Goes to the fragment that has the last of the next `count` cells that the edit's version sees, over whole nodes
-    // of the tree. Returns the number of cells that are still to be passed.
-    fn seek(&mut self, edit: &EditOp, count: u64) -> Result<u64, OutOfMemory>
+    // Goes to the fragment that has the last of the next `count` cells that the edit's version sees, or after it if
+    // they end with it, over whole nodes of the tree. Returns the number of cells that are still to be passed, and if
+    // the walk is at its start, how many shown and hidden cells it has passed then.
+    fn seek(&mut self, edit: &EditOp, count: u64) -> Result<(u64, Passed), OutOfMemory>
         requires within { self.old.at ≤ length self.old.tree.items }
         requires fit { Fit self.old.tree.items }
         requires place { self.old.place ≡ seen_bytes edit.now.version
@@ -49,23 +60,29 @@ impl Walk {
         ensures tree { self.new.tree ≡ self.old.tree }
         ensures number { self.new.number ≡ self.old.number }
         ensures index { self.new.index ≡ self.old.index }
-        ensures sought { IfOk result (λ n. IsSought edit.now.stamp edit.now.version
-            self.old.tree.items count self.old.at n self.new.at self.new.place) }
+        ensures sought { IfOk result (λ r. IsSought edit.now.stamp edit.now.version
+            self.old.tree.items count self.old.at r.0 self.new.at self.new.place) }
+        ensures passed { self.old.at ≡ 0
+            → IfOk result (λ r. IsAfter r.1 (take self.new.at self.old.tree.items)) }
         ensures left { AllSeen edit.now.version (drop self.old.at self.old.tree.items)
             → count ≤ 2 ^ 40
-            → IfOk result (λ n. IsLeft edit.now.version count (drop self.old.at self.old.tree.items)
-            n (drop self.new.at self.old.tree.items)) }
+            → IfOk result (λ r. IsLeft edit.now.version count (drop self.old.at self.old.tree.items)
+            r.0 (drop self.new.at self.old.tree.items)) }
     {
         if count == 0 || count > MOST_CELLS {
-            return Ok(count);
+            let none = Passed {
+                visible: 0,
+                hidden: 0,
+            };
+            return Ok((count, none));
         }
         let target = Full {
             bytes: self.place + count,
         };
-        let (at, place) = seen_stop(&self.tree, &edit.version, &target)?;
-        self.at = at;
-        self.place = place;
-        Ok(target.bytes - place)
+        let stop = seen_stop(&self.tree, &edit.version, &target)?;
+        self.at = stop.at;
+        self.place = stop.place;
+        Ok((target.bytes - stop.place, stop.passed))
     }
 
     // The tree, and the fragments that a piece makes from the range that begins here, after `left` more cells are
@@ -191,7 +208,7 @@ impl Walk {
             (drop self.at self.tree.items)) }
     {
         let mut walk = self;
-        let left = walk.seek(edit, count)?;
+        let (left, _) = walk.seek(edit, count)?;
         let (tree, gather) = walk.gather(alloc, undos, edit, left, piece)?;
         Self::after_change(alloc, tree, gather, steps)
     }
@@ -235,42 +252,84 @@ impl Walk {
     }
 }
 
-// Where a seek by all cells stops: the number of fragments before it, and of their cells. A version that sees all
-// fragments need not be asked.
-fn plain_stop(tree: &SumTree<Fragment>, target: &Full) -> Result<(u64, u64), OutOfMemory>
+// Where a seek by all cells stops. A version that sees all fragments need not be asked.
+fn plain_stop(tree: &SumTree<Fragment>, target: &Full) -> Result<Stop, OutOfMemory>
     requires room { cells_len tree.now.items ≤ 2 ^ 40 }
     ensures index { (v : Entries) → AllSeen v tree.now.items
-        → IfOk result (λ r. r.0 ≡ seen_stop v target.now.bytes tree.now.items) }
+        → IfOk result (λ r. IsStop v target.now.bytes tree.now.items r.at) }
     ensures place { (v : Entries) → AllSeen v tree.now.items
-        → IfOk result (λ r. r.1 ≡ seen_bytes v (take r.0 tree.now.items)) }
+        → IfOk result (λ r. r.place ≡ seen_bytes v (take r.at tree.now.items)) }
+    ensures passed { IfOk result (λ r. IsAfter r.passed (take r.at tree.now.items)) }
 {
-    let start = Full { bytes: 0 };
+    let start = Passed {
+        visible: 0,
+        hidden: 0,
+    };
+    tree.known();
     let mut cursor = Cursor::new(tree, start)?;
     cursor.seek(target, Bias::Left)?;
     let at = cursor.index();
-    let place = cursor.start().bytes;
-    Ok((at, place))
+    let end = cursor.end();
+    let last = end.visible + end.hidden;
+    if last == target.bytes {
+        let next = at + 1;
+        return Ok(Stop {
+            at: next,
+            place: last,
+            passed: end,
+        });
+    }
+    let passed = cursor.start();
+    let place = passed.visible + passed.hidden;
+    Ok(Stop { at, place, passed })
 }
 
-// Where a seek by the cells that a version sees stops: the number of fragments before it, and of their cells that the
-// version sees.
+// Where a seek by the cells that a version sees stops.
 fn asked_stop(
     tree: &SumTree<Fragment>,
     version: &Version,
     target: &Full,
-) -> Result<(u64, u64), OutOfMemory>
+) -> Result<Stop, OutOfMemory>
     requires room { cells_len tree.now.items ≤ 2 ^ 40 }
-    ensures index { IfOk result (λ r. r.0
-        ≡ seen_stop version.now target.now.bytes tree.now.items) }
-    ensures place { IfOk result (λ r. r.1
-        ≡ seen_bytes version.now (take r.0 tree.now.items)) }
+    ensures index { IfOk result
+        (λ r. IsStop version.now target.now.bytes tree.now.items r.at) }
+    ensures place { IfOk result (λ r. r.place
+        ≡ seen_bytes version.now (take r.at tree.now.items)) }
+    ensures passed { IfOk result (λ r. IsAfter r.passed (take r.at tree.now.items)) }
 {
-    let start = FullAt { version, bytes: 0 };
+    let start = SeenPassed {
+        version,
+        bytes: 0,
+        visible: 0,
+        hidden: 0,
+    };
+    tree.known();
     let mut cursor = Cursor::new(tree, start)?;
     cursor.seek(target, Bias::Left)?;
     let at = cursor.index();
-    let place = cursor.start().bytes;
-    Ok((at, place))
+    let end = cursor.end();
+    if end.bytes == target.bytes {
+        let next = at + 1;
+        let passed = Passed {
+            visible: end.visible,
+            hidden: end.hidden,
+        };
+        return Ok(Stop {
+            at: next,
+            place: end.bytes,
+            passed,
+        });
+    }
+    let before = cursor.start();
+    let passed = Passed {
+        visible: before.visible,
+        hidden: before.hidden,
+    };
+    Ok(Stop {
+        at,
+        place: before.bytes,
+        passed,
+    })
 }
 
 // The same. A version that sees all fragments is asked about their sum alone.
@@ -278,17 +337,29 @@ fn seen_stop(
     tree: &SumTree<Fragment>,
     version: &Version,
     target: &Full,
-) -> Result<(u64, u64), OutOfMemory>
+) -> Result<Stop, OutOfMemory>
     requires room { cells_len tree.now.items ≤ 2 ^ 40 }
-    ensures index { IfOk result (λ r. r.0
-        ≡ seen_stop version.now target.now.bytes tree.now.items) }
-    ensures place { IfOk result (λ r. r.1
-        ≡ seen_bytes version.now (take r.0 tree.now.items)) }
+    ensures index { IfOk result
+        (λ r. IsStop version.now target.now.bytes tree.now.items r.at) }
+    ensures place { IfOk result (λ r. r.place
+        ≡ seen_bytes version.now (take r.at tree.now.items)) }
+    ensures passed { IfOk result (λ r. IsAfter r.passed (take r.at tree.now.items)) }
 {
     match tree.summary().span.sight(version) {
         Sight::All => plain_stop(tree, target),
         Sight::Nothing | Sight::Part => asked_stop(tree, version, target),
     }
+}
+
+/// Fragments that were made, with what is left of one after them. Fails only if an allocation fails.
+pub fn with_rest(made: Vec<Fragment>, rest: Option<Fragment>) -> Result<Vec<Fragment>, OutOfMemory>
+    ensures { IfOk result (λ v. v.items ≡ made.items ++ option_to_list rest) }
+{
+    let mut all = made;
+    if let Some(fragment) = rest {
+        all.push(fragment)?;
+    }
+    Ok(all)
 }
 
 // Replaces the fragments in `from..at` with those that were made and what is left of one. Returns the number of
@@ -313,18 +384,19 @@ fn put_back<L: Ledger>(
         (length made.items + length (option_to_list back)) }
 {
     tree.known();
-    let mut all = made;
-    let count = all.len() as u64;
-    if let Some(rest) = back {
-        all.push(rest)?;
-    }
+    let count = made.len() as u64;
+    let all = with_rest(made, back)?;
     let to = at.min(tree.len());
     put(tree, alloc, from, to, all, steps)?;
     Ok(from + count)
 }
 
-// Replaces a range of fragments, and counts a step for each node made. An edit makes nodes of the tree only here.
-fn put<L: Ledger>(
+/// Replaces a range of fragments, and counts a step for each node made. An edit makes nodes of the tree only here.
+///
+/// # Errors
+///
+/// Fails only if an allocation fails. The tree is then as before.
+pub fn put<L: Ledger>(
     tree: &mut SumTree<Fragment>,
     alloc: Global,
     from: u64,
@@ -335,20 +407,90 @@ fn put<L: Ledger>(
     requires order { from ≤ to }
     requires within { to ≤ length tree.old.items }
     requires fit { Fit (splice_list from to fragments.items tree.old.items) }
-    ensures items { IfOk result (λ _. tree.new.items
+    ensures items { OnOk result (tree.new.items
         ≡ splice_list from to fragments.items tree.old.items) }
+    ensures err { OnErr result (tree.new ≡ tree.old) }
     ensures cost { MakeFew steps.old steps.new from to (length fragments.items) }
 {
     tree.known();
-    tree.exchange_counted(alloc, from, to, fragments, steps)?;
-    Ok(())
+    tree.exchange_counted(alloc, from, to, fragments, steps)
 }
 
-// Whether a piece has a range or a text.
-fn changes(piece: &Piece) -> bool
+/// Whether a piece has a range or a text.
+pub fn changes(piece: &Piece) -> bool
     ensures { result ≡ changes piece.now }
 {
     piece.start < piece.end || !piece.text.as_str().is_empty()
+}
+
+/// What the only piece of an edit makes of the fragments, and how many shown and hidden cells lie before it. The tree
+/// stays as it is.
+///
+/// # Errors
+///
+/// Fails only if an allocation fails.
+pub fn gather_one(
+    alloc: Global,
+    tree: &SumTree<Fragment>,
+    index: InsertionIndex,
+    undos: &UndoMap,
+    edit: &EditOp,
+    piece: &Piece,
+) -> Result<(Passed, Gather), OutOfMemory>
+    requires unseen { sees edit.now.version edit.now.stamp ≡ false }
+    requires fit { Fit tree.now.items }
+    requires room { cells_len tree.now.items + length piece.now.text ≤ 2 ^ 40 }
+    requires indexed { IsIndexed edit.now.stamp 0 tree.now.items index }
+    ensures within { IfOk result (λ r. r.1.from ≤ length tree.now.items) }
+    ensures order { IfOk result (λ r. r.1.from ≤ r.1.at) }
+    ensures passed { IfOk result (λ r. IsAfter r.0 (take r.1.from tree.now.items)) }
+    ensures gathered { IfOk result (λ r. IsAt edit.now.version
+        (one_piece undos.now edit.now.stamp edit.now.version piece.now.start 0 piece.now
+        [] tree.now.items) (cells_len tree.now.items + length piece.now.text)
+        (so_far tree.now.items r.1) (ahead tree.now.items r.1) r.1.place) }
+    ensures indexed { IfOk result (λ r. IsIndexed edit.now.stamp r.1.number
+        (so_far tree.now.items r.1 ++ ahead tree.now.items r.1) r.1.index) }
+    ensures few { AllSeen edit.now.version tree.now.items → piece.now.start ≤ 2 ^ 40
+        → IfOk result (λ r. TakeFew tree.now.items piece.now.start piece.now.end r.1) }
+{
+    gather_in(alloc, tree.share()?, index, undos, edit, piece)
+}
+
+// The same, with a tree that shares all nodes.
+fn gather_in(
+    alloc: Global,
+    tree: SumTree<Fragment>,
+    index: InsertionIndex,
+    undos: &UndoMap,
+    edit: &EditOp,
+    piece: &Piece,
+) -> Result<(Passed, Gather), OutOfMemory>
+    requires unseen { sees edit.now.version edit.now.stamp ≡ false }
+    requires fit { Fit tree.items }
+    requires room { cells_len tree.items + length piece.now.text ≤ 2 ^ 40 }
+    requires indexed { IsIndexed edit.now.stamp 0 tree.items index }
+    ensures within { IfOk result (λ r. r.1.from ≤ length tree.items) }
+    ensures order { IfOk result (λ r. r.1.from ≤ r.1.at) }
+    ensures passed { IfOk result (λ r. IsAfter r.0 (take r.1.from tree.items)) }
+    ensures gathered { IfOk result (λ r. IsAt edit.now.version
+        (one_piece undos.now edit.now.stamp edit.now.version piece.now.start 0 piece.now
+        [] tree.items) (cells_len tree.items + length piece.now.text)
+        (so_far tree.items r.1) (ahead tree.items r.1) r.1.place) }
+    ensures indexed { IfOk result (λ r. IsIndexed edit.now.stamp r.1.number
+        (so_far tree.items r.1 ++ ahead tree.items r.1) r.1.index) }
+    ensures few { AllSeen edit.now.version tree.items → piece.now.start ≤ 2 ^ 40
+        → IfOk result (λ r. TakeFew tree.items piece.now.start piece.now.end r.1) }
+{
+    let mut walk = Walk {
+        tree,
+        at: 0,
+        place: 0,
+        number: 0,
+        index,
+    };
+    let (left, passed) = walk.seek(edit, piece.start)?;
+    let (_, gather) = walk.gather(alloc, undos, edit, left, piece)?;
+    Ok((passed, gather))
 }
 
 /// Walks over all pieces of an edit, and counts a step for each node made. If the edit has seen all fragments, there

@@ -1,6 +1,6 @@
 -- What replaces one child, or two, when a node is changed in place.
 use Rattle.std.proofs.Common.{refl, ◌≡◌, ℕ, ◌+◌, ◌-◌, ◌<◌, ◌≤◌, List, [], ◌∷◌, ◌++◌, length, get_or, set, take, drop, Option, Some, None, sym, ap, subst, ◌∙◌, append_assoc, take-append-drop, arith, length-append}
-use Rattle.std.proofs.lemmas.List.{drop-set, drop_all, drop-append-le, take-set-le, take-take, take-append-le, length-take-le, length-drop}
+use Rattle.std.proofs.lemmas.List.{append-nil, drop-set, drop_all, drop-append-le, take-set-le, take-take, take-append-le, length-take-le, length-drop}
 use Rattle.std.proofs.lemmas.List.Elements.{All-append, All-cons, All-nil, All-take, All-drop}
 use Rattle.std.specs.List.{All, insert}
 use Rattle.sum_tree.specs.Seen.{Seen}
@@ -27,6 +27,13 @@ module _ {X : Type 0} where
       let front : take k (take (k + 1) xs ++ b ∷ rest) ≡ take k xs = take-append-le k (take (k + 1) xs) (b ∷ rest) (omega (arith, lt, length-take-le (k + 1) xs (omega (arith, lt)))) ∙ take-take k (k + 1) xs (omega arith) in
       let back : drop (k + 1) (take (k + 1) xs ++ b ∷ rest) ≡ b ∷ rest = drop-append-le (k + 1) (take (k + 1) xs) (b ∷ rest) (omega (arith, lt, length-take-le (k + 1) xs (omega (arith, lt)))) ∙ ap (λ (ys : List X). ys ++ b ∷ rest) (drop_all (k + 1) (take (k + 1) xs) (omega (arith, lt, length-take-le (k + 1) xs (omega (arith, lt))))) in
       set_parts (take (k + 1) xs ++ b ∷ rest) k a long ∙ ap (λ (ys : List X). ys ++ a ∷ drop (k + 1) (take (k + 1) xs ++ b ∷ rest)) front ∙ ap (λ (ys : List X). take k xs ++ a ∷ ys) back ∙ sym (append_assoc (take k xs) (a ∷ b ∷ []) rest)
+
+  pub put_end : (xs : List X) (k : ℕ) (a b : X) → k + 1 ≡ length xs → set xs k a ++ b ∷ [] ≡ with_pair xs k a (Some b)
+  put_end xs k a b e =
+      let none : drop (k + 1) xs ≡ [] = drop_all (k + 1) xs (omega (arith, e)) in
+      let front : set xs k a ≡ take k xs ++ a ∷ [] = set_parts xs k a (omega (arith, e)) ∙ ap (λ (ys : List X). take k xs ++ a ∷ ys) none in
+      ap (λ (ys : List X). ys ++ b ∷ []) front ∙ append_assoc (take k xs) (a ∷ []) (b ∷ [])
+      ∙ sym (ap (λ (ys : List X). (take k xs ++ a ∷ b ∷ []) ++ ys) none ∙ append-nil (take k xs ++ a ∷ b ∷ []))
 
   pub pair_few : (a : X) (b : Option X) → (1 ≤ length (pair_list a b)) × (length (pair_list a b) ≤ 2)
   pair_few a None = (omega arith, omega arith)

@@ -24,3 +24,12 @@ IsPushedBesideOr h old new x (Some y) = (new ≡ old) × (y ≡ x)
 abbrev pub IsPushedBeside : {T E : Type 0} → ℕ → List (Seen T) → List (Seen T) → T → Result (Option T) E → Type 0
 IsPushedBeside h old new x (Ok o) = IsPushedBesideOr h old new x o
 IsPushedBeside h old new x (Err e) = new ≡ old
+
+-- where the item is appended, the continuation is done; where it is handed back, the continuation is as it was
+abbrev pub IsContinuationOr : {K T : Type 0} → (K → K → Type 0) → K → K → Option T → Type 0
+IsContinuationOr done k l None = done k l
+IsContinuationOr done k l (Some y) = l ≡ k
+
+abbrev pub IsContinuation : {K T E : Type 0} → (K → K → Type 0) → (K → K → Type 0) → K → K → Result (Option T) E → Type 0
+IsContinuation done kept k l (Ok o) = IsContinuationOr done k l o
+IsContinuation done kept k l (Err e) = kept k l

@@ -5,6 +5,7 @@ ghost use Rattle.sum_tree.specs.Shape.{IsChild, join_items};
 ghost use Rattle.sum_tree.specs.Grown.{IsSplit, pair_list, with_pair, with_run};
 
 use crate::OutOfMemory;
+use crate::continuation::{Continuation, Nothing};
 use crate::entry::Entry;
 use crate::steps::Steps;
 use crate::traits::Item;
@@ -384,11 +385,81 @@ impl<T: Item> SumTree<T> {
         ensures err { OnErr result (self.new ≡ self.old) }
         ensures cost { steps.new ≤ steps.old + 2 * (self.old.height + 2) }
     {
-        match self.push_here(alloc, Entry::new(alloc, item)?, steps)? {
+        self.push_before(alloc, item, steps, &mut Nothing)
+    }
+
+    /// Does what `push` does, under the same conditions, once a continuation has succeeded: first all is done that may
+    /// fail, then the continuation is run, and then the tree is changed, which does not allocate and cannot fail.
+    ///
+    /// # Errors
+    ///
+    /// Fails only if an allocation or the continuation fails. The tree is then as before, and the item is dropped.
+    pub fn push_then<K: Continuation>(
+        &mut self,
+        alloc: Global,
+        item: T,
+        rest: &mut K,
+    ) -> Result<(), OutOfMemory>
+        requires short { length self.old.items < 2 ^ 40 }
+        requires fits { T.Summary.fits (fold T.Summary.empty T.Summary.op T.sum_of
+            (self.old.items ++ item ∷ [])) }
+        requires may { K.may rest.old }
+        ensures ok { OnOk result (self.new.items ≡ self.old.items ++ item ∷ []) }
+        ensures err { OnErr result (self.new ≡ self.old) }
+        ensures done { OnOk result (K.done rest.old rest.new) }
+        ensures kept { OnErr result (K.kept rest.old rest.new) }
+    {
+        self.push_then_with::<Brand, K>(alloc, item, rest, Blank::new(1))
+    }
+
+    // The same, with a counter made from the blank.
+    fn push_then_with<L: Ledger, K: Continuation>(
+        &mut self,
+        alloc: Global,
+        item: T,
+        rest: &mut K,
+        blank: Blank,
+    ) -> Result<(), OutOfMemory>
+        requires name { blank.name ≡ L.name }
+        requires parts { blank.parts ≡ L.parts }
+        requires some { 0 < blank.parts }
+        requires short { length self.old.items < 2 ^ 40 }
+        requires fits { T.Summary.fits (fold T.Summary.empty T.Summary.op T.sum_of
+            (self.old.items ++ item ∷ [])) }
+        requires may { K.may rest.old }
+        ensures ok { OnOk result (self.new.items ≡ self.old.items ++ item ∷ []) }
+        ensures err { OnErr result (self.new ≡ self.old) }
+        ensures done { OnOk result (K.done rest.old rest.new) }
+        ensures kept { OnErr result (K.kept rest.old rest.new) }
+    {
+        let mut steps = Steps::<L>::new(blank);
+        self.push_before(alloc, item, &mut steps, rest)
+    }
+
+    // Does what `push_then` does, and counts a step for each node made.
+    fn push_before<L: Ledger, K: Continuation>(
+        &mut self,
+        alloc: Global,
+        item: T,
+        steps: &mut Steps<L>,
+        rest: &mut K,
+    ) -> Result<(), OutOfMemory>
+        requires short { length self.old.items < 2 ^ 40 }
+        requires fits { T.Summary.fits (fold T.Summary.empty T.Summary.op T.sum_of
+            (self.old.items ++ item ∷ [])) }
+        requires may { K.may rest.old }
+        ensures ok { OnOk result (self.new.items ≡ self.old.items ++ item ∷ []) }
+        ensures err { OnErr result (self.new ≡ self.old) }
+        ensures done { OnOk result (K.done rest.old rest.new) }
+        ensures kept { OnErr result (K.kept rest.old rest.new) }
+        ensures cost { steps.new ≤ steps.old + 2 * (self.old.height + 2) }
+    {
+        match self.push_here(alloc, Entry::new(alloc, item)?, steps, rest)? {
             None => Ok(()),
             Some(entry) => {
                 let other = single(alloc, entry, steps)?;
                 let whole = both(alloc, self, &other, steps)?;
+                rest.run(alloc)?;
                 *self = whole;
                 Ok(())
             }

@@ -1,15 +1,16 @@
 //! Changes in place, while no other tree shares the nodes on the path.
-ghost use Rattle.std.specs.Prelude.{◌≡◌, ℕ, List, ◌+◌, ◌*◌, ◌^◌, ◌<◌, ◌≤◌, [], ◌∷◌, ◌++◌, length, All, Some, IfOk, IfSome, OnOk, OnErr};
+ghost use Rattle.std.specs.Prelude.{◌≡◌, ℕ, List, ◌+◌, ◌*◌, ◌^◌, ◌<◌, ◌≤◌, [], ◌∷◌, ◌++◌, length, All, Some, IfOk, IfSome, OnOk, OnErr, vec_capacity, vec_len};
 ghost use Rattle.sum_tree.specs.Laws.{fold};
 ghost use Rattle.sum_tree.specs.Shape.{IsChild, IsContent, join_items, content_items, content_width};
 ghost use Rattle.sum_tree.specs.Grown.{with_pair};
-ghost use Rattle.sum_tree.specs.Here.{IsPushed, IsPushedBeside};
+ghost use Rattle.sum_tree.specs.Here.{IsContinuation, IsPushed, IsPushedBeside};
 ghost use Rattle.sum_tree.specs.Around.{Fitting, outer_sums, path_sums};
 ghost use Rattle.sum_tree.specs.Placed.{AreChildren, IsNoted, IsPlacing, IsPlacingOr, content_seen, inner_seen, leaf_seen};
 ghost use Rattle.sum_tree.specs.Spliced.{splice_list};
 
 use crate::OutOfMemory;
 use crate::around::{Around, around_child, entries_sum, settle, three_sum};
+use crate::continuation::{Continuation, Nothing};
 use crate::entry::Entry;
 use crate::grow::{gather, two_inners, two_leaves};
 use crate::splice::{child_with, three_parts};
@@ -245,21 +246,39 @@ fn note<S: Drop, E: Drop, N: Drop>(
     }
 }
 
-// Appends the entry to the items of these children, in a copy of the last child and of its last path. Hands the entry
-// back if there is no room for one more child.
-fn push_beside<T: Item, L: Ledger>(
+// Replaces the last element with one element, or with two.
+fn put_last<X: Drop>(list: &mut Vec<X>, last: usize, front: X, back: Option<X>)
+    requires last { last + 1 ≡ vec_len list.old }
+    requires room { vec_len list.old < vec_capacity list.old }
+    ensures { list.new.items ≡ with_pair list.old.items last front back }
+{
+    match back {
+        None => list[last] = front,
+        Some(back) => {
+            list[last] = front;
+            list.push_reserved(back);
+        }
+    }
+}
+
+// Appends the entry to the items of these children, in a copy of the last child and of its last path, after the
+// continuation. Hands the entry back if there is no room for one more child.
+fn push_beside<T: Item, L: Ledger, K: Continuation>(
     alloc: Global,
     height: u32,
     children: &mut Vec<SumTree<T>>,
     entry: Entry<T>,
     steps: &mut Steps<L>,
+    rest: &mut K,
 ) -> Result<Option<Entry<T>>, OutOfMemory>
     requires children { All (IsChild height) children.old.items }
     requires least { 2 ≤ length children.old.items }
     requires short { length (join_items children.old.items ++ entry ∷ []) ≤ 2 ^ 40 }
     requires fits { T.Summary.fits (fold T.Summary.empty T.Summary.op T.sum_of
         (join_items children.old.items ++ entry ∷ [])) }
+    requires may { K.may rest.old }
     ensures pushed { IsPushedBeside height children.old.items children.new.items entry result }
+    ensures rest { IsContinuation K.done K.kept rest.old rest.new result }
     ensures back { IfOk result (λ o. IfSome o (λ _. steps.new ≡ steps.old)) }
     ensures cost { steps.new ≤ steps.old + (2 * height + 1) }
 {
@@ -269,24 +288,32 @@ fn push_beside<T: Item, L: Ledger>(
     let last = children.len() - 1;
     let other = single(alloc, entry, steps)?;
     let (front, back) = children[last].with_behind(alloc, &other, steps)?;
-    put_pair(children, last, front, back)?;
+    children.reserve(1)?;
+    rest.run(alloc)?;
+    put_last(children, last, front, back);
     Ok(None)
 }
 
-// Appends the entry to a leaf's entries, or hands it back if the leaf is full.
-fn push_in_leaf<T: Item>(
+// Appends the entry to a leaf's entries after the continuation, or hands it back if the leaf is full.
+fn push_in_leaf<T: Item, K: Continuation>(
+    alloc: Global,
     entries: &mut Vec<Entry<T>>,
     entry: Entry<T>,
+    rest: &mut K,
 ) -> Result<Option<Entry<T>>, OutOfMemory>
-    requires { length entries.old.items ≤ 12 }
+    requires most { length entries.old.items ≤ 12 }
+    requires may { K.may rest.old }
     ensures most { length entries.new.items ≤ 12 }
     ensures pushed { IsPushed (leaf_seen entries.old.items)
         (leaf_seen entries.new.items) entry result }
+    ensures rest { IsContinuation K.done K.kept rest.old rest.new result }
 {
     if entries.len() >= MOST {
         return Ok(Some(entry));
     }
-    entries.push(entry)?;
+    entries.reserve(1)?;
+    rest.run(alloc)?;
+    entries.push_reserved(entry);
     Ok(None)
 }
 
@@ -309,72 +336,82 @@ fn sum_with<T: Item>(
 }
 
 impl<T: Item> SumTree<T> {
-    // Appends the entry to the items of these children, in place if the last child can take it in place, or hands it
-    // back.
+    // Appends the entry to the items of these children after the continuation, in place if the last child can take it in
+    // place, or hands it back.
     #[cycle(pushing)]
-    fn push_in_children<L: Ledger>(
+    fn push_in_children<L: Ledger, K: Continuation>(
         alloc: Global,
         height: u32,
         children: &mut Vec<SumTree<T>>,
         entry: Entry<T>,
         steps: &mut Steps<L>,
+        rest: &mut K,
     ) -> Result<Option<Entry<T>>, OutOfMemory>
         requires children { AreChildren height children.old.items }
         requires short { length (join_items children.old.items) < 2 ^ 40 }
         requires fits { T.Summary.fits (fold T.Summary.empty T.Summary.op T.sum_of
             (join_items children.old.items ++ entry ∷ [])) }
+        requires may { K.may rest.old }
         ensures children { AreChildren height children.new.items }
         ensures pushed { IsPushed (inner_seen height children.old.items)
             (inner_seen height children.new.items) entry result }
+        ensures rest { IsContinuation K.done K.kept rest.old rest.new result }
         ensures back { IfOk result (λ o. IfSome o (λ _. steps.new ≡ steps.old)) }
         ensures cost { steps.new ≤ steps.old + (2 * height + 1) }
     {
         let last = children.len() - 1;
-        match children[last].push_here(alloc, entry, steps)? {
-            Some(entry) => return push_beside(alloc, height, children, entry, steps),
+        match children[last].push_here(alloc, entry, steps, rest)? {
+            Some(entry) => return push_beside(alloc, height, children, entry, steps, rest),
             None => return Ok(None),
         }
     }
 
-    // Appends the entry in place to what a node of this height holds, or hands it back.
+    // Appends the entry in place to what a node of this height holds, after the continuation, or hands it back.
     #[cycle(pushing)]
-    fn push_in<L: Ledger>(
+    fn push_in<L: Ledger, K: Continuation>(
         alloc: Global,
         height: u32,
         content: &mut Content<T>,
         entry: Entry<T>,
         steps: &mut Steps<L>,
+        rest: &mut K,
     ) -> Result<Option<Entry<T>>, OutOfMemory>
         requires content { IsContent height content.old }
         requires short { length (content_items content.old) < 2 ^ 40 }
         requires fits { T.Summary.fits (fold T.Summary.empty T.Summary.op T.sum_of
             (content_items content.old ++ entry ∷ [])) }
+        requires may { K.may rest.old }
         ensures content { IsContent height content.new }
         ensures pushed { IsPushed (content_seen height content.old)
             (content_seen height content.new) entry result }
+        ensures rest { IsContinuation K.done K.kept rest.old rest.new result }
         ensures back { IfOk result (λ o. IfSome o (λ _. steps.new ≡ steps.old)) }
         ensures cost { steps.new ≤ steps.old + (2 * height + 1) }
     {
         match content {
-            Content::Leaf(entries) => return push_in_leaf(entries, entry),
+            Content::Leaf(entries) => return push_in_leaf(alloc, entries, entry, rest),
             Content::Inner(children) => {
-                return Self::push_in_children(alloc, height, children, entry, steps);
+                return Self::push_in_children(alloc, height, children, entry, steps, rest);
             }
         }
     }
 
-    // Appends the entry in place, or hands it back if a node on the path is shared or the leaf is full.
+    // Appends the entry in place, after the continuation, or hands it back if a node on the path is shared or the leaf is
+    // full.
     #[cycle(pushing)]
-    pub(crate) fn push_here<L: Ledger>(
+    pub(crate) fn push_here<L: Ledger, K: Continuation>(
         &mut self,
         alloc: Global,
         entry: Entry<T>,
         steps: &mut Steps<L>,
+        rest: &mut K,
     ) -> Result<Option<Entry<T>>, OutOfMemory>
         requires short { length self.old.items < 2 ^ 40 }
         requires fits { T.Summary.fits (fold T.Summary.empty T.Summary.op T.sum_of
             (self.old.items ++ entry ∷ [])) }
+        requires may { K.may rest.old }
         ensures pushed { IsPushed self.old self.new entry result }
+        ensures rest { IsContinuation K.done K.kept rest.old rest.new result }
         ensures back { IfOk result (λ o. IfSome o (λ _. steps.new ≡ steps.old)) }
         ensures cost { steps.new ≤ steps.old + (2 * self.old.height + 1) }
     {
@@ -383,7 +420,7 @@ impl<T: Item> SumTree<T> {
             Some(node) => node,
         };
         let sum = sum_with(alloc, &node.sum, &entry)?;
-        match Self::push_in(alloc, node.height, &mut node.content, entry, steps)? {
+        match Self::push_in(alloc, node.height, &mut node.content, entry, steps, rest)? {
             Some(entry) => return Ok(Some(entry)),
             None => {
                 node.len += 1;
@@ -410,7 +447,7 @@ fn push_here_with<T: Item, L: Ledger>(
     ensures { IsPushed tree.old tree.new entry result }
 {
     let mut steps = Steps::<L>::new(blank);
-    tree.push_here(alloc, entry, &mut steps)
+    tree.push_here(alloc, entry, &mut steps, &mut Nothing)
 }
 
 // The same, with a counter of its own.

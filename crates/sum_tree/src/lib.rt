@@ -2,6 +2,7 @@
 #![tactic(auto)]
 
 mod around;
+mod continuation;
 mod count;
 mod cut;
 mod entry;
@@ -18,6 +19,7 @@ mod threads;
 mod traits;
 mod tree;
 
+pub use continuation::{Continuation, Nothing};
 pub use count::Count;
 pub use entry::Entry;
 pub use exchange::Exchange;

@@ -17,6 +17,8 @@ use Rattle.fragments.specs.contracts.fragment.FragmentSummary as summary
 use Rattle.fragments.specs.contracts.index_entry.IndexEntry as entry
 use Rattle.fragments.specs.contracts.index_entry.IndexKey as key
 use Rattle.fragments.specs.contracts.deleted_run.DeletedRun as deleted
+use Rattle.fragments.specs.contracts.recent.RecentEntries as recent
+use Rattle.fragments.specs.contracts.recent.RecentEntries.TheInside as listed
 use Rattle.fragments.specs.contracts.index.InsertionIndex as index
 use Rattle.fragments.specs.contracts.index.InsertionIndex.TheInside as sorted
 use Rattle.text_buffer.specs.contracts.content.Content as content
@@ -109,11 +111,23 @@ deleted_shared = search plain depth 60 fits 20000
 
 ruleset entries = (entry_sent, entry_shared, deleted_sent, deleted_shared, key_sent, key_shared, knot.crosses, crosses, sendable)
 
+listed_sent : IsSend listed.the_row
+listed_sent = declared_send listed.the_type (search entries depth 60 fits 20000, tt)
+
+listed_shared : IsSync listed.the_row
+listed_shared = declared_sync listed.the_type (search entries depth 60 fits 20000, tt)
+
+recent_sent : IsSend recent.the_row
+recent_sent = search (listed_sent, sendable) depth 60 fits 20000
+
+recent_shared : IsSync recent.the_row
+recent_shared = search (listed_shared, sendable) depth 60 fits 20000
+
 sorted_sent : IsSend sorted.the_row
-sorted_sent = declared_send sorted.the_type (search entries depth 60 fits 20000, (search entries depth 60 fits 20000, tt))
+sorted_sent = declared_send sorted.the_type (search entries depth 60 fits 20000, (recent_sent, (search entries depth 60 fits 20000, tt)))
 
 sorted_shared : IsSync sorted.the_row
-sorted_shared = declared_sync sorted.the_type (search entries depth 60 fits 20000, (search entries depth 60 fits 20000, tt))
+sorted_shared = declared_sync sorted.the_type (search entries depth 60 fits 20000, (recent_shared, (search entries depth 60 fits 20000, tt)))
 
 index_sent : IsSend index.the_row
 index_sent = search (sorted_sent, sendable) depth 60 fits 20000

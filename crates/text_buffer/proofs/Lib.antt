@@ -5,6 +5,7 @@ pub mod Crossing
 pub mod Edited
 pub mod EditResult
 pub mod Contents
+pub mod Drafts
 pub mod Applied
 pub mod Undone
 pub mod Taken

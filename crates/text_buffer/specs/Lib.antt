@@ -1,6 +1,7 @@
 pub mod Outcomes
 pub mod Buffer
 pub mod Document
+pub mod Drafts
 pub mod Costs
 pub mod DocumentInside
 pub mod BufferInside

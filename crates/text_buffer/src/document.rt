@@ -1,8 +1,9 @@
 //! A history, and what it makes.
-ghost use Rattle.std.specs.Prelude.{◌≡◌, ◌+◌, ◌-◌, ◌^◌, ◌≤◌, ℕ, List, ◌++◌, ◌∷◌, [], None, length, IfOk, OnErr, OnOk, option_map, string_bytes};
+ghost use Rattle.std.specs.Prelude.{◌≡◌, ◌+◌, ◌-◌, ◌^◌, ◌<◌, ◌≤◌, ℕ, List, ◌++◌, ◌∷◌, [], None, length, IfOk, OnErr, OnOk, option_map, string_bytes};
 ghost use Rattle.std.specs.Arc.{arc_value};
 ghost use Rattle.lamport_clock.specs.Clocks.{clock_after};
 ghost use Rattle.lamport_clock.specs.Versions.{raise};
+ghost use Rattle.op_model.specs.declared.operation.Operation.TheVariants.{Edit};
 ghost use Rattle.op_model.specs.declared.operation.Piece.{Piece};
 ghost use Rattle.op_model.specs.Domains.{IsProper};
 ghost use Rattle.op_model.specs.Operations.{bytes_of, entries_of, pieces_of, stamp_of, text_total};
@@ -13,12 +14,16 @@ ghost use Rattle.op_model.specs.Shown.{hidden_text, text, texts};
 ghost use Rattle.op_model.specs.Rules.{answer_under};
 ghost use Rattle.undo_map.specs.Undos.{undo_entries};
 ghost use Rattle.op_answers.specs.Verdicts.{answer_of};
+ghost use Rattle.remote_edit.specs.Changes.{ChangeFew};
+ghost use Rattle.remote_edit.specs.Fragments.{fragments_of};
 ghost use Rattle.remote_edit.specs.Moves.{TakeTexts};
 ghost use Rattle.text_buffer.specs.Bases.{first_text};
 ghost use Rattle.text_buffer.specs.Costs.{IsEditCost};
-ghost use Rattle.text_buffer.specs.Document.{IsContent, IsBufferHistory, IsMoved, MayEdit, MayGrow, excess_of};
+ghost use Rattle.text_buffer.specs.Document.{IsContent, IsBufferHistory, MayEdit, MayGrow, excess_of};
+ghost use Rattle.text_buffer.specs.Drafts.{IsDraft, IsDrafted};
 
 use crate::content::{BASE, Content};
+use crate::draft::{Draft, push_with_change};
 use crate::faults::Excess;
 use crate::pieces::{first_text, size};
 use crate::{Endings, OutOfMemory};
@@ -27,12 +32,13 @@ use deferred_ops::Deferred;
 use lamport_clock::{Lamport, Version};
 use op_answers::{Verdict, judge};
 use op_model::{EditOp, Limits, Operation, Piece, Pieces, Text, Unit};
-use remote_edit::{Placed, place_local};
+use remote_edit::{Placement, TreeChange, plan_local, plan_remote};
 use rope_chunks::Rope;
+use rope_edits::apply_moves;
 use std::alloc::Global;
-use std::marker::Model;
+use std::marker::{Brand, Model};
 use std::sync::Arc;
-use std::sync::ledger::Ledger;
+use std::sync::ledger::{Blank, Ledger};
 use sum_tree::Steps;
 use undo_map::UndoMap;
 
@@ -208,16 +214,33 @@ impl Document {
     }
 
     /// Appends an operation that is good. This costs a few descents for each of its pieces, the fragments in their ranges and those
-    /// that its counts concern; what does not change is shared. If an allocation fails, the operation is dropped and nothing
-    /// changes.
+    /// that its counts concern; what does not change is shared. An edit of one piece changes in place the fragments that no other
+    /// document shares. If an allocation fails, the operation is dropped and nothing changes.
     pub fn apply(&mut self, op: Operation) -> Result<(), OutOfMemory>
         requires grows { MayGrow self.old op }
         ensures ok { OnOk result (self.new ≡ self.old ++ op ∷ []) }
         ensures err { OnErr result (self.new ≡ self.old) }
     {
+        self.make_room()?;
+        self.apply_in_room(op)
+    }
+
+    // Does what `apply` does, once the index has room.
+    fn apply_in_room(&mut self, op: Operation) -> Result<(), OutOfMemory>
+        requires { MayGrow self.old op }
+        ensures ok { OnOk result (self.new ≡ self.old ++ op ∷ []) }
+        ensures err { OnErr result (self.new ≡ self.old) }
+    {
         let adds = size(&op);
-        let content = self.content_with(&op)?;
-        self.push(op, adds, content)
+        let draft = self.draft_with(&op)?;
+        self.push_with::<Brand>(op, adds, draft, Blank::new(1))
+    }
+
+    // Makes room in the index for what an operation adds to it. The document means what it meant.
+    fn make_room(&mut self) -> Result<(), OutOfMemory>
+        ensures { self.new ≡ self.old }
+    {
+        self.content.index.make_room(self.alloc)
     }
 
     /// The document with one operation more, which is good. This costs what `apply` does, but what no other document
@@ -271,26 +294,49 @@ impl Document {
         ensures err { OnErr result (self.new ≡ self.old) }
         ensures cost { IsEditCost self.old changes.now (steps.new - steps.old) }
     {
-        let (edit, adds, content) = self.with_changes(replica, changes, steps)?;
+        self.known_cost();
+        self.make_room()?;
+        self.edit_in_room(replica, changes, steps)
+    }
+
+    // Does what `make_edit` does, once the index has room.
+    fn edit_in_room<L: Ledger>(
+        &mut self,
+        replica: u16,
+        changes: &[Piece],
+        steps: &mut Steps<L>,
+    ) -> Result<Operation, OutOfMemory>
+        requires { MayEdit self.old replica changes.now }
+        ensures made { IfOk result (λ op. op ≡ local_edit self.old replica changes.now) }
+        ensures new { OnOk result (self.new
+            ≡ self.old ++ local_edit self.old replica changes.now ∷ []) }
+        ensures err { OnErr result (self.new ≡ self.old) }
+        ensures cost { IsEditCost self.old changes.now (steps.new - steps.old) }
+    {
+        let (edit, adds, draft) = self.with_changes(replica, changes, steps)?;
         let (made, kept) = with_copy(self.alloc, edit)?;
-        self.push(kept, adds, content)?;
+        self.push(kept, adds, draft, steps)?;
         Ok(made)
     }
 
-    // The edit of changes that meet no fault, what it adds to the bytes and entries, and the content of the history with it.
+    // The edit of changes that meet no fault, what it adds to the bytes and entries, and a draft of the content of the history with
+    // it. The steps of the draft's change are within the cost too.
     fn with_changes<L: Ledger>(
         &self,
         replica: u16,
         changes: &[Piece],
         steps: &mut Steps<L>,
-    ) -> Result<(Operation, (u128, u64), Content), OutOfMemory>
+    ) -> Result<(Operation, (u128, u64), Draft), OutOfMemory>
         requires { MayEdit self.now replica changes.now }
         ensures made { IfOk result (λ r. r.0 ≡ local_edit self.now replica changes.now) }
         ensures grows { IfOk result (λ r. MayGrow self.now r.0) }
         ensures bytes { IfOk result (λ r. r.1.0 ≡ bytes_of r.0) }
         ensures entries { IfOk result (λ r. r.1.1 ≡ entries_of r.0) }
-        ensures content { IfOk result (λ r. IsContent r.2 (self.now ++ r.0 ∷ [])) }
+        ensures draft { IfOk result (λ r. IsDraft r.2 (fragments_of self.now)
+            (self.now ++ r.0 ∷ [])) }
         ensures cost { IsEditCost self.now changes.now (steps.new - steps.old) }
+        ensures change { IfOk result (λ r. (n : ℕ) → ChangeFew r.2.change steps.new n
+            → IsEditCost self.now changes.now (n - steps.old)) }
     {
         self.content.fragments.known();
         let stamp = Lamport {
@@ -298,7 +344,7 @@ impl Document {
             replica,
         };
         let undos = self.content.undos.share()?;
-        let (edit, placed) = place_local(
+        let (edit, placement) = plan_local(
             self.alloc,
             &self.content.fragments,
             &self.content.index,
@@ -310,8 +356,54 @@ impl Document {
         )?;
         let made = Operation::Edit(edit);
         let adds = size(&made);
-        let content = self.content_of(placed, undos, changes)?;
-        Ok((made, adds, content))
+        let draft = self.draft_of(placement, undos, changes)?;
+        Ok((made, adds, draft))
+    }
+
+    // A draft of the content of the history with an operation that is good.
+    fn draft_with(&self, op: &Operation) -> Result<Draft, OutOfMemory>
+        requires { MayGrow self.now op.now }
+        ensures { IfOk result (λ d. IsDraft d (fragments_of self.now) (self.now ++ op.now ∷ [])) }
+    {
+        match op {
+            Operation::Edit(edit) => self.draft_with_edit(edit),
+            Operation::Undo(_) => self.draft_beside(op),
+        }
+    }
+
+    // A draft of the content of the history with an edit that is good.
+    fn draft_with_edit(&self, edit: &EditOp) -> Result<Draft, OutOfMemory>
+        requires { MayGrow self.now (Edit edit.now) }
+        ensures { IfOk result (λ d. IsDraft d (fragments_of self.now)
+            (self.now ++ Edit edit.now ∷ [])) }
+    {
+        let placement = plan_remote(
+            self.alloc,
+            &self.content.fragments,
+            &self.content.index,
+            &self.content.undos,
+            edit,
+        )?;
+        self.draft_of(
+            placement,
+            self.content.undos.share()?,
+            edit.pieces.as_slice(),
+        )
+    }
+
+    // A draft of the content of the history with any operation that is good: the whole content, made beside the old one.
+    fn draft_beside(&self, op: &Operation) -> Result<Draft, OutOfMemory>
+        requires { MayGrow self.now op.now }
+        ensures { IfOk result (λ d. IsDraft d (fragments_of self.now) (self.now ++ op.now ∷ [])) }
+    {
+        let content = self.content_with(op)?;
+        Ok(Draft {
+            change: TreeChange::Whole(content.fragments),
+            index: content.index,
+            undos: content.undos,
+            text: content.text,
+            hidden: content.hidden,
+        })
     }
 
     // The content of the history with an operation that is good.
@@ -323,43 +415,90 @@ impl Document {
         content.with_operation(self.alloc, op)
     }
 
-    // The fragments and the index that an operation makes, with both texts after its moves.
-    fn content_of(
+    // The change of the fragments and the index that an operation makes, with both texts after its moves.
+    fn draft_of(
         &self,
-        placed: Placed,
+        placement: Placement,
         undos: UndoMap,
         pieces: &[Piece],
-    ) -> Result<Content, OutOfMemory>
-        requires texts { TakeTexts placed.moves (text self.now) (hidden_text self.now)
+    ) -> Result<Draft, OutOfMemory>
+        requires texts { TakeTexts placement.moves (text self.now) (hidden_text self.now)
             (texts pieces.now) }
         requires room { bytes_held self.now + text_total pieces.now ≤ 2 ^ 40 }
-        ensures { IfOk result (λ c. IsMoved c placed undos (text self.now) (hidden_text self.now)
-            (texts pieces.now)) }
+        ensures { IfOk result (λ d. IsDrafted d placement undos self.now (texts pieces.now)) }
     {
-        let ropes = self.content.share_texts()?;
-        Content::after_moves(self.alloc, placed, undos, ropes, pieces)
+        let texts = apply_moves(
+            self.alloc,
+            &self.content.text,
+            &self.content.hidden,
+            placement.moves.as_slice(),
+            pieces,
+        )?;
+        Ok(Draft {
+            change: placement.change,
+            index: placement.index,
+            undos,
+            text: texts.shown,
+            hidden: texts.hidden,
+        })
     }
 
-    // Appends an operation that is good and adds these bytes and entries, with the content of the history that has it.
-    fn push(
+    // Does what `push` does, with a counter made from the blank.
+    fn push_with<L: Ledger>(
         &mut self,
         op: Operation,
         adds: (u128, u64),
-        content: Content,
+        draft: Draft,
+        blank: Blank,
+    ) -> Result<(), OutOfMemory>
+        requires name { blank.name ≡ L.name }
+        requires parts { blank.parts ≡ L.parts }
+        requires some { 0 < blank.parts }
+        requires grows { MayGrow self.old op }
+        requires bytes { adds.0 ≡ bytes_of op }
+        requires entries { adds.1 ≡ entries_of op }
+        requires draft { IsDraft draft (fragments_of self.old) (self.old ++ op ∷ []) }
+        ensures ok { OnOk result (self.new ≡ self.old ++ op ∷ []) }
+        ensures err { OnErr result (self.new ≡ self.old) }
+    {
+        let mut steps = Steps::<L>::new(blank);
+        self.push(op, adds, draft, &mut steps)
+    }
+
+    // Appends an operation that is good and adds these bytes and entries, with a draft of the content of the history that has it. The
+    // change of the fragments is the last step that may fail.
+    fn push<L: Ledger>(
+        &mut self,
+        op: Operation,
+        adds: (u128, u64),
+        draft: Draft,
+        steps: &mut Steps<L>,
     ) -> Result<(), OutOfMemory>
         requires grows { MayGrow self.old op }
         requires bytes { adds.0 ≡ bytes_of op }
         requires entries { adds.1 ≡ entries_of op }
-        requires content { IsContent content (self.old ++ op ∷ []) }
+        requires draft { IsDraft draft (fragments_of self.old) (self.old ++ op ∷ []) }
         ensures ok { OnOk result (self.new ≡ self.old ++ op ∷ []) }
         ensures err { OnErr result (self.new ≡ self.old) }
+        ensures cost { ChangeFew draft.change steps.old steps.new }
     {
         let stamp = op.stamp();
         let (bytes, entries) = adds;
-        let version = append(self.alloc, &mut self.operations, &self.version, op)?;
+        let version = version_with(self.alloc, &self.version, stamp)?;
+        push_with_change(
+            self.alloc,
+            &mut self.operations,
+            &mut self.content.fragments,
+            op,
+            draft.change,
+            steps,
+        )?;
         self.clock = after(self.clock, stamp);
         self.version = version;
-        self.content = content;
+        self.content.index = draft.index;
+        self.content.undos = draft.undos;
+        self.content.text = draft.text;
+        self.content.hidden = draft.hidden;
         self.bytes += bytes as u64;
         self.entries += entries;
         Ok(())
@@ -375,23 +514,6 @@ pub(crate) fn with_copy(alloc: Global, op: Operation) -> Result<(Operation, Oper
     let made = op.into_shared(alloc)?;
     let copy = made.copy(alloc)?;
     Ok((made, copy))
-}
-
-// Appends an operation that is new, and returns the version with its stamp. If an allocation fails, the operation is dropped.
-fn append(
-    alloc: Global,
-    operations: &mut AppliedList,
-    version: &Arc<Version>,
-    op: Operation,
-) -> Result<Arc<Version>, OutOfMemory>
-    requires { operation_at operations.old (stamp_of op) ≡ None }
-    ensures version { IfOk result (λ v. arc_value v ≡ raise (arc_value version.now) (stamp_of op)) }
-    ensures ok { OnOk result (operations.new ≡ operations.old ++ op ∷ []) }
-    ensures err { OnErr result (operations.new ≡ operations.old) }
-{
-    let version = version_with(alloc, version, op.stamp())?;
-    operations.push(alloc, op)?;
-    Ok(version)
 }
 
 // The version with a stamp.

@@ -24,6 +24,7 @@ mod base;
 mod buffer;
 mod content;
 mod document;
+mod draft;
 mod entering;
 mod faults;
 mod forgetting;

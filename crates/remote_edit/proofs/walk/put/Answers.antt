@@ -11,5 +11,5 @@ exchange_counted-requires-clause-fits g c = fits _ c.requires.fit.1
 
 pub returns-clause-cost : goal.returns-clause-cost
 returns-clause-cost g c =
-    let e = c.in_ok-exchange_counted.ensures in
+    let e = c.exchange_counted.ensures in
     put_few c.args.steps.now c.exchange_counted.new.steps c.args.from c.args.to (length c.args.fragments.items) c.args.tree.now.height c.known.ensures.low e.cost e.narrow

@@ -1,5 +1,6 @@
-use Rattle.std.proofs.Common.{◌≡◌, ◌-◌, ◌<◌, ◌++◌, [], ◌∷◌, length, take, List, subst, arith}
+use Rattle.std.proofs.Common.{◌≡◌, ◌-◌, ◌<◌, ◌++◌, [], ◌∷◌, length, take, List, ap, subst, ◌∙◌, arith}
 use Rattle.sum_tree.specs.Laws.{fold}
+use Rattle.sum_tree.specs.Grown.{with_pair}
 use Rattle.sum_tree.specs.Shape.{join_items, IsChild}
 use Rattle.sum_tree.proofs.Opened.{last_is_child}
 use Rattle.sum_tree.proofs.Folds.{fits_right}
@@ -22,7 +23,7 @@ returns-clause-pushed g c =
     let n = c.len-last.result in
     let len : n ≡ length ts = omega (arith, c.len-last.ensures, c.args.children.now.ok) in
     let few : length ts < 12 = omega (arith, c.if-len-ge-MOST.false, c.len.ensures, c.args.children.now.ok) in
-    pushed_beside c.args.height ts c.put_pair.new.list.items n c.index.result.now c.in_ok-front.front c.in_ok-front.back c.args.entry c.in_ok-other.other.items c.requires.children len c.requires.least few c.index.ensures c.in_ok-other.ensures.items c.in_ok-front.ensures.split c.in_ok-put_pair.ensures.ok
+    pushed_beside c.args.height ts c.put_last.new.list.items n c.index.result.now c.in_ok-front.front c.in_ok-front.back c.args.entry c.in_ok-other.other.items c.requires.children len c.requires.least few c.index.ensures c.in_ok-other.ensures.items c.in_ok-front.ensures.split (c.put_last.ensures ∙ ap (λ (us : List _). with_pair us (n - 1) c.in_ok-front.front c.in_ok-front.back) c.in_ok-reserve.ensures.items)
 
 pub returns-in_err-front-clause-cost : goal.returns-in_err-front-clause-cost
 returns-in_err-front-clause-cost g c =
@@ -32,8 +33,8 @@ returns-in_err-front-clause-cost g c =
     let child : IsChild c.args.height c.index.result.now = last_is_child c.args.height ts n c.index.result.now c.requires.children len (omega (arith, len, c.requires.least)) c.index.ensures in
     omega (arith, child.lower, c.single.ensures.cost, c.in_ok-other.ensures.height, c.with_behind.ensures.cost)
 
-pub returns-in_err-put_pair-clause-cost : goal.returns-in_err-put_pair-clause-cost
-returns-in_err-put_pair-clause-cost g c =
+pub returns-in_err-reserve-clause-cost : goal.returns-in_err-reserve-clause-cost
+returns-in_err-reserve-clause-cost g c =
     let ts = c.args.children.now.items in
     let n = c.len-last.result in
     let len : n ≡ length ts = omega (arith, c.len-last.ensures, c.args.children.now.ok) in
@@ -42,6 +43,14 @@ returns-in_err-put_pair-clause-cost g c =
 
 pub returns-clause-cost : goal.returns-clause-cost
 returns-clause-cost g c =
+    let ts = c.args.children.now.items in
+    let n = c.len-last.result in
+    let len : n ≡ length ts = omega (arith, c.len-last.ensures, c.args.children.now.ok) in
+    let child : IsChild c.args.height c.index.result.now = last_is_child c.args.height ts n c.index.result.now c.requires.children len (omega (arith, len, c.requires.least)) c.index.ensures in
+    omega (arith, child.lower, c.single.ensures.cost, c.in_ok-other.ensures.height, c.with_behind.ensures.cost)
+
+pub returns-in_err-run-clause-cost : goal.returns-in_err-run-clause-cost
+returns-in_err-run-clause-cost g c =
     let ts = c.args.children.now.items in
     let n = c.len-last.result in
     let len : n ≡ length ts = omega (arith, c.len-last.ensures, c.args.children.now.ok) in

@@ -3,7 +3,7 @@ use Rattle.std.proofs.lemmas.Bool.{lt-ltb, le-ltb}
 use Rattle.sum_tree.specs.Keyed.{insert_item}
 use Rattle.lamport_clock.specs.declared.stamp.Lamport.{Lamport}
 use Rattle.fragments.specs.declared.deleted_run.DeletedRun.{DeletedRun}
-use Rattle.fragments.specs.Index.{key_cmp}
+use Rattle.fragments.specs.Index.{key_cmp, with_entries}
 use Rattle.fragments.specs.DeletedRuns.{IndexState, run_key, AreNumbered, with_run, keep_run, delete_run}
 use Rattle.fragments.proofs.Runs.{runs_long, numbered_kept}
 use Rattle.fragments.proofs.index.InsertionIndex.add_deleted.Goals as goal
@@ -27,9 +27,9 @@ kept t s k n i rs ys e l q =
 pub invariant_of-self-2 : goal.invariant_of-self-2
 invariant_of-self-2 c =
     let q = kept c.args.edit c.args.stamp c.args.offset c.args.len c.len-number.result c.self.inside.deletions.items c.insert.new.self.items c.len-number.ensures c.if-number-ge-MOST_RUNS.false c.in_ok-insert.ensures.ok in
-    (c.self.invariant.0, subst AreNumbered (sym q) (numbered_kept c.args.edit c.args.stamp c.args.offset c.args.len c.self.inside.deletions.items c.self.invariant.1))
+    (c.self.invariant.0, subst AreNumbered (sym q) (numbered_kept c.args.edit c.args.stamp c.args.offset c.args.len c.self.inside.deletions.items c.self.invariant.1), c.self.invariant.2)
 
 pub returns-clause-ok : goal.returns-clause-ok
 returns-clause-ok c =
     let q = kept c.args.edit c.args.stamp c.args.offset c.args.len c.len-number.result c.self.inside.deletions.items c.insert.new.self.items c.len-number.ensures c.if-number-ge-MOST_RUNS.false c.in_ok-insert.ensures.ok in
-    ap (λ (w : List DeletedRun). record { entries = c.self.inside.entries.items; deletions = w }) q ∙ ap (delete_run c.args.edit c.args.stamp c.args.offset c.args.len) c.self.view_is
+    ap (λ (w : List DeletedRun). record { entries = with_entries c.self.inside.recent c.self.inside.entries.items; deletions = w }) q ∙ ap (delete_run c.args.edit c.args.stamp c.args.offset c.args.len) c.self.view_is

@@ -100,7 +100,7 @@ pub loop-members-preserved : goal.loop-members-preserved
 loop-members-preserved c =
     turn_stay c.args.buffer c.args.snapshot.now c.args.self.now c.loop-members.tree.items c.loop-members.members.items c.loop-members.found c.next.new.self c.loop-members.invariant c.in_ok-member.ensures.moved
     c.in-Some.member.now (sym c.in_ok-member.ensures.item ∙ ap option_copied c.in-Some.is)
-    c.follow-excerpt.result c.follow-excerpt.ensures (c.differs.ensures c.if-differs.false)
+    c.follow-excerpt.result c.follow-excerpt.ensures (c.differs.ensures.same c.if-differs.false)
 
 pub same-tree-2 : goal.same-tree-2
 same-tree-2 c = refl

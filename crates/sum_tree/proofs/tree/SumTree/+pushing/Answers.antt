@@ -1,6 +1,7 @@
 use Rattle.std.proofs.Common.{rules, ◌≡◌, ◌+◌, ◌-◌, ◌*◌, ◌^◌, ◌<◌, [], ◌∷◌, ◌++◌, List, Option, IfOk, length, set, refl, ap, sym, subst, ◌∙◌, arith, length-append}
 use Rattle.std.specs.Prelude.{IfSome}
 use Rattle.sum_tree.specs.Laws.{fold}
+use Rattle.sum_tree.specs.Here.{IsContinuation}
 use Rattle.sum_tree.specs.Seen.{Seen}
 use Rattle.sum_tree.specs.Shape.{IsContent, IsNode, join_items, content_items}
 use Rattle.sum_tree.specs.Placed.{AreChildren, inner_seen}
@@ -155,3 +156,13 @@ push_here-returns-in-Some-2-clause-cost g t c =
 pub push_here-returns-in-None-2-clause-cost : goal.push_here-returns-in-None-2-clause-cost
 push_here-returns-in-None-2-clause-cost g t c =
     omega (arith, node_height c.in-Some.ensures.value c.self.view_is, c.push_in.ensures.cost)
+
+pub push_in_children-push_beside-requires-clause-may : goal.push_in_children-push_beside-requires-clause-may
+push_in_children-push_beside-requires-clause-may g t' c =
+    let same : c.push_here.new.rest ≡ c.args.rest.now = rw c.in-Some.is at c.in_ok-entry.ensures.rest in
+    subst g.K.Continuation.may (sym same) c.requires.may
+
+pub push_in_children-returns-in-Some-clause-rest : goal.push_in_children-returns-in-Some-clause-rest
+push_in_children-returns-in-Some-clause-rest g t' c =
+    let same : c.push_here.new.rest ≡ c.args.rest.now = rw c.in-Some.is at c.in_ok-entry.ensures.rest in
+    subst (λ (k : _). IsContinuation g.K.Continuation.done g.K.Continuation.kept k c.push_beside.new.rest c.push_beside.result) same c.push_beside.ensures.rest

@@ -4,7 +4,7 @@ use Rattle.sum_tree.specs.Laws.{fold}
 use Rattle.sum_tree.specs.Seen.{Seen}
 use Rattle.sum_tree.proofs.Folds.{fits_right, fold_single}
 use Rattle.sum_tree.proofs.Heres.{pushed_some}
-use Rattle.sum_tree.proofs.tree.SumTree.push_counted.Goals as goal
+use Rattle.sum_tree.proofs.tree.SumTree.push_before.Goals as goal
 
 pub single-requires : goal.single-requires
 single-requires g c =
