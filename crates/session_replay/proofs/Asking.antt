@@ -18,10 +18,10 @@ use Rattle.session_more.specs.Lines.{is_query, query_count}
 use Rattle.session_more.specs.declared.report.MoreReport.TheVariants.{Plain}
 use Rattle.session_more.specs.declared.session.MoreLine.{MoreLine}
 use Rattle.session_more.specs.declared.session.MoreLine.TheVariants as more
-use Rattle.query_workers.specs.Asks.{Ask}
-use Rattle.query_dispatch.specs.Dealt.{HasAsked, pairs_in}
-use Rattle.query_dispatch.specs.Published.{AreLevel, columns, published_lists, published_of, rows_of}
-use Rattle.query_dispatch.specs.States.{DispatcherState, PublishersState}
+use Rattle.queries.specs.Asks.{Ask}
+use Rattle.queries.specs.Dealt.{HasAsked, pairs_in}
+use Rattle.queries.specs.Published.{AreLevel, columns, published_lists, published_of, rows_of}
+use Rattle.queries.specs.States.{DispatcherState, PublishersState}
 use Rattle.session_work.specs.Work.{State, buffer_of, events, step, histories}
 use Rattle.session_work.specs.MoreQueries.{more_queries_from, more_query_at, more_question_of}
 use Rattle.session_work.specs.MoreWork.{MoreState, more_events, more_step}

@@ -12,9 +12,9 @@ use Rattle.session_lines.specs.declared.report.QueryAnswer.{QueryAnswer}
 use Rattle.session_lines.specs.declared.report.Report.{Report}
 use Rattle.session_lines.specs.declared.report.Report.TheVariants as report
 use Rattle.session_more.specs.declared.session.MoreSession.{MoreSession}
-use Rattle.query_workers.specs.Asks.{worker_of}
-use Rattle.query_workers.specs.declared.query.Answer.{Answer}
-use Rattle.query_dispatch.specs.Final.{AreGathered, IsFinal, IsPast, NeverFalls}
+use Rattle.queries.specs.Asks.{worker_of}
+use Rattle.queries.specs.declared.query.Answer.{Answer}
+use Rattle.queries.specs.Final.{AreGathered, IsFinal, IsPast, NeverFalls}
 use Rattle.session_work.specs.Work.{State, applied_count, buffer_of, histories}
 use Rattle.session_replay.specs.Replies as replies
 use Rattle.session_replay.specs.Replies.{AreReplies, IsWithin, Reply, history_at_end, history_or_empty, reply_line}

@@ -3,13 +3,12 @@ use Rattle.std.proofs.Common.{◌≡◌, ℕ, List, length, map, IfOk, Result, O
 use Rattle.std.specs.List.{All, AllZip}
 use Rattle.std.proofs.lemmas.List.{length-map}
 use Rattle.op_model.specs.declared.operation.Operation.{Operation}
-use Rattle.query_workers.specs.Asks.{Ask}
-use Rattle.query_workers.specs.States.{DeskState, DoneState, InboxState}
-use Rattle.query_dispatch.specs.Dealt.{AllAt, AreEnds, IsClosed, pairs_in, queues_of, told_lists, told_pairs}
-use Rattle.query_dispatch.specs.Final.{HaveWorked, IsPast, IsReady, Lasts}
-use Rattle.query_dispatch.specs.Published.{columns, published_lists, rows_of}
-use Rattle.query_dispatch.specs.States.{DispatcherState, PublishersState}
-use Rattle.query_dispatch.proofs.Places.{sizes_of}
+use Rattle.queries.specs.Asks.{Ask}
+use Rattle.queries.specs.States.{DeskState, DoneState, InboxState, DispatcherState, PublishersState}
+use Rattle.queries.specs.Dealt.{AllAt, AreEnds, IsClosed, pairs_in, queues_of, told_lists, told_pairs}
+use Rattle.queries.specs.Final.{HaveWorked, IsPast, IsReady, Lasts}
+use Rattle.queries.specs.Published.{columns, published_lists, rows_of}
+use Rattle.queries.proofs.Places.{sizes_of}
 use Rattle.text_buffer.specs.Buffer.{BufferState}
 use Rattle.text_buffer.specs.Document.{IsFront}
 use Rattle.session_lines.specs.declared.report.QueryAnswer.{QueryAnswer}

@@ -13,12 +13,12 @@ use Rattle.session_more.specs.Lines.{query_count}
 use Rattle.session_more.specs.Reports.{more_report_text}
 use Rattle.session_more.specs.declared.session.MoreLine.{MoreLine}
 use Rattle.session_more.specs.declared.session.MoreSession.{MoreSession}
-use Rattle.query_workers.specs.declared.query.Answer.{Answer}
-use Rattle.query_dispatch.specs.Dealt.{HasAsked}
-use Rattle.query_dispatch.specs.Final.{AreGathered, IsPast}
-use Rattle.query_dispatch.specs.Published.{AreLevel, AreTied, published_lists}
-use Rattle.query_dispatch.specs.States.{PublishersState}
-use Rattle.query_dispatch.proofs.Dealing.{tied_length}
+use Rattle.queries.specs.declared.query.Answer.{Answer}
+use Rattle.queries.specs.Dealt.{HasAsked}
+use Rattle.queries.specs.Final.{AreGathered, IsPast}
+use Rattle.queries.specs.Published.{AreLevel, AreTied, published_lists}
+use Rattle.queries.specs.States.{PublishersState}
+use Rattle.queries.proofs.Dealing.{tied_length}
 use Rattle.session_replay.specs.Replies.{IsReport, reply_line}
 use Rattle.session_work.specs.MoreQueries.{more_end_of, more_queries_from, more_queries_of, plain_end_of}
 use Rattle.session_work.specs.MoreWork.{IsMoreSession, MoreState, after_all_more, all_more_events, more_opening}

@@ -11,12 +11,12 @@ use Rattle.session_lines.specs.declared.report.QueryAnswer.{QueryAnswer}
 use Rattle.session_more.specs.Lines.{query_count}
 use Rattle.session_more.specs.Reports.{more_report_text}
 use Rattle.session_more.specs.declared.session.MoreLine.{MoreLine}
-use Rattle.query_workers.specs.Asks.{Ask}
-use Rattle.query_workers.specs.declared.query.Answer.{Answer}
-use Rattle.query_dispatch.specs.Dealt.{HasAsked, pairs_in, queues_of}
-use Rattle.query_dispatch.specs.Published.{AreLevel, AreTied, published_lists, rows_of}
-use Rattle.query_dispatch.specs.Final.{IsReady}
-use Rattle.query_dispatch.specs.States.{DispatcherState, PublishersState}
+use Rattle.queries.specs.Asks.{Ask}
+use Rattle.queries.specs.declared.query.Answer.{Answer}
+use Rattle.queries.specs.Dealt.{HasAsked, pairs_in, queues_of}
+use Rattle.queries.specs.Published.{AreLevel, AreTied, published_lists, rows_of}
+use Rattle.queries.specs.Final.{IsReady}
+use Rattle.queries.specs.States.{DispatcherState, PublishersState}
 use Rattle.session_work.specs.MoreQueries.{more_queries_from}
 use Rattle.session_work.specs.MoreWork.{after_all_more, all_more_events}
 use Rattle.session_work.specs.Queries.{AskedQuery}

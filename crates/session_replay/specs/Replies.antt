@@ -11,7 +11,7 @@ use Rattle.session_more.specs.declared.session.MoreSession.{MoreSession}
 use Rattle.session_work.specs.MoreQueries.{more_queries_of, more_report_with, plain_end_of}
 use Rattle.session_work.specs.Queries.{AskedQuery, answer_line}
 use Rattle.session_work.specs.Work.{State, applied_count, buffer_of}
-use Rattle.query_workers.specs.Asks.{worker_of}
+use Rattle.queries.specs.Asks.{worker_of}
 
 -- a query, and the number of the operations on which it is answered, the base not counted
 pub record Reply : Type 0 where

@@ -5,13 +5,12 @@ ghost use Rattle.session_lines.specs.Report.{report_text};
 ghost use Rattle.session_lines.specs.declared.report.QueryAnswer.{QueryAnswer};
 ghost use Rattle.session_more.specs.Lines.{query_count};
 ghost use Rattle.session_more.specs.Reports.{more_report_text};
-ghost use Rattle.query_workers.specs.Asks.{Ask};
-ghost use Rattle.query_workers.specs.States.{DeskState};
-ghost use Rattle.query_workers.specs.declared.query.Answer.{Answer};
-ghost use Rattle.query_dispatch.specs.Dealt.{AreEnds, HasAsked, told_lists, told_pairs};
-ghost use Rattle.query_dispatch.specs.Final.{AreGathered, HaveWorked, IsPast};
-ghost use Rattle.query_dispatch.specs.Published.{AreLevel, columns, published_lists, rows_of};
-ghost use Rattle.query_dispatch.specs.States.{DispatcherState};
+ghost use Rattle.queries.specs.Asks.{Ask};
+ghost use Rattle.queries.specs.States.{DeskState, DispatcherState};
+ghost use Rattle.queries.specs.declared.query.Answer.{Answer};
+ghost use Rattle.queries.specs.Dealt.{AreEnds, HasAsked, told_lists, told_pairs};
+ghost use Rattle.queries.specs.Final.{AreGathered, HaveWorked, IsPast};
+ghost use Rattle.queries.specs.Published.{AreLevel, columns, published_lists, rows_of};
 ghost use Rattle.session_replay.specs.Beside.{AsksMore, CanEdit, HasEdited, HasLeft, IsAsking, KeepsEnds, line_of};
 ghost use Rattle.session_replay.specs.Replies.{IsReport};
 ghost use Rattle.session_work.specs.MoreQueries.{more_queries_from, more_query_at};
@@ -24,8 +23,9 @@ ghost use Rattle.session_work.specs.declared.queries.Question.{Question};
 
 use crate::OutOfMemory;
 use crate::text_query::TextQuery;
-use query_dispatch::{Dispatcher, Gathering, Publishers, open_desks};
-use query_workers::{Answer, Desk, Done, Gate, work_beside};
+use queries::{
+    Answer, Desk, Dispatcher, Done, Gate, Gathering, Publishers, open_desks, work_beside,
+};
 use session_lines::{QueryAnswer, Report};
 use session_more::{MoreLine, MoreQueue, MoreSession};
 use session_work::{MoreProgress, Question, more_question_of, query_line};

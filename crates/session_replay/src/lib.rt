@@ -23,6 +23,6 @@ pub use laws::{
 pub use memory::{MemSink, MemSource, SureSink, SureSource};
 pub use op_model::OutOfMemory;
 pub use outside::{Failed, Sink, Source};
-pub use query_workers::Gate;
+pub use queries::Gate;
 pub use sure::run_on_bytes;
 pub use top::{Status, run};

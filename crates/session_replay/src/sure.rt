@@ -8,7 +8,7 @@ ghost use Rattle.session_work.specs.Work.{session_limit};
 
 use crate::memory::{SureSink, SureSource};
 use crate::top::{Status, run};
-use query_workers::Gate;
+use queries::Gate;
 use std::alloc::Global;
 use std::sync::Wait;
 use std::thread::Threads;

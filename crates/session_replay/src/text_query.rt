@@ -3,7 +3,7 @@ ghost use Rattle.std.specs.Prelude.{◌≡◌, IfOk};
 ghost use Rattle.session_work.specs.Queries.{find_answer};
 
 use crate::OutOfMemory;
-use query_workers::Query;
+use queries::Query;
 use rope_chunks::Rope;
 use session_lines::{FindAnswer, QueryAnswer};
 use session_work::{Question, answer_of, find_answer, offset_answer, point_answer};

@@ -26,7 +26,7 @@ use crate::outside::{Failed, Sink, Source};
 use crate::traffic::{InputFault, read_all, write_all};
 use command_words::{Command, Task, command_of};
 use op_wire::WireFault;
-use query_workers::Gate;
+use queries::Gate;
 use record_lines::{PackFault, fault_line, long_line, unpack};
 use session_more::{DecodeFault, MoreReport, MoreSession, Word, decode, write_line};
 use session_work::{make, pack, report};

@@ -2,7 +2,7 @@ use Rattle.std.proofs.Common.{◌++◌, length, ap, ◌∙◌, subst}
 use Rattle.std.specs.List.{flat_map}
 use Rattle.std.proofs.lemmas.Result.{IfOk-weaker}
 use Rattle.session_lines.specs.Report.{report_text}
-use Rattle.query_dispatch.specs.Final.{AreGathered}
+use Rattle.queries.specs.Final.{AreGathered}
 use Rattle.session_work.specs.Work.{at_end}
 use Rattle.session_work.specs.Queries.{plain_answer}
 use Rattle.session_replay.proofs.Leaving.{can_gather, same_length}

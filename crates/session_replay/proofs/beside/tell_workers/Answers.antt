@@ -3,9 +3,9 @@ use Rattle.std.specs.List.{All}
 use Rattle.std.proofs.lemmas.List.{map-append}
 use Rattle.std.proofs.lemmas.List.Elements.{All-append, All-cons, All-nil}
 use Rattle.snapshot_pub.specs.States.{ToldState}
-use Rattle.query_dispatch.specs.Dealt.{told_lists, told_pairs}
-use Rattle.query_dispatch.specs.Published.{published_lists, rows_of}
-use Rattle.query_dispatch.proofs.Places.{pairs_more}
+use Rattle.queries.specs.Dealt.{told_lists, told_pairs}
+use Rattle.queries.specs.Published.{published_lists, rows_of}
+use Rattle.queries.proofs.Places.{pairs_more}
 use Rattle.session_replay.proofs.beside.tell_workers.Goals as goal
 
 pub loop-worker-preserved : goal.loop-worker-preserved

@@ -1,7 +1,7 @@
 use Rattle.std.proofs.Common.{◌≡◌, map}
 use Rattle.std.specs.List.{All}
-use Rattle.query_dispatch.specs.Dealt.{told_lists, told_pairs}
-use Rattle.query_dispatch.specs.Published.{columns, published_lists, rows_of}
+use Rattle.queries.specs.Dealt.{told_lists, told_pairs}
+use Rattle.queries.specs.Published.{columns, published_lists, rows_of}
 use Rattle.session_replay.proofs.beside.tell_workers.Given as goal
 
 abbrev pub invariant-loop-worker : goal.invariant-loop-worker

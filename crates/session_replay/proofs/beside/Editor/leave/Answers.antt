@@ -1,5 +1,5 @@
 use Rattle.std.proofs.Common.{ap, ◌∙◌}
-use Rattle.query_dispatch.specs.Published.{columns, rows_of}
+use Rattle.queries.specs.Published.{columns, rows_of}
 use Rattle.session_replay.proofs.Leaving.{leaves}
 use Rattle.session_replay.proofs.beside.Editor.leave.Goals as goal
 

@@ -1,8 +1,8 @@
 use Rattle.std.proofs.Common.{◌≡◌, ◌==◌, ◌+◌, List, [], ◌∷◌, ◌++◌, length, get_or, None, Some, ap, ◌∙◌, subst}
 use Rattle.std.specs.List.{position}
 use Rattle.text_buffer.specs.Buffer.{BufferState}
-use Rattle.query_workers.specs.Asks.{Ask}
-use Rattle.query_dispatch.specs.Dealt.{HasAsked}
+use Rattle.queries.specs.Asks.{Ask}
+use Rattle.queries.specs.Dealt.{HasAsked}
 use Rattle.session_work.specs.Queries.{query_of, query_with}
 use Rattle.session_work.specs.declared.queries.Question.{Question}
 use Rattle.session_work.specs.Working.{more_state_of}

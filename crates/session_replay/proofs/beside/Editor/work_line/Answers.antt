@@ -1,6 +1,6 @@
 use Rattle.std.proofs.Common.{◌≡◌, ℕ, ◌+◌, List, ◌++◌, length, Option, OnOk, sym, ap, ◌∙◌, subst, arith}
 use Rattle.std.proofs.lemmas.Result.{on_ok_weaker}
-use Rattle.query_workers.specs.Asks.{Ask}
+use Rattle.queries.specs.Asks.{Ask}
 use Rattle.session_more.specs.Reports.{more_report_text}
 use Rattle.session_more.specs.declared.session.MoreLine.{MoreLine}
 use Rattle.session_work.specs.MoreQueries.{more_query_at}

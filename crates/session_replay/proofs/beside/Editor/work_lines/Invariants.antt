@@ -1,5 +1,5 @@
 use Rattle.std.proofs.Common.{◌≡◌, ◌≤◌, ◌++◌, List, length}
-use Rattle.query_workers.specs.Asks.{Ask}
+use Rattle.queries.specs.Asks.{Ask}
 use Rattle.session_more.specs.Reports.{more_report_text}
 use Rattle.session_work.specs.MoreWork.{after_all_more, all_more_events}
 use Rattle.session_work.specs.Room.{HasRoom}

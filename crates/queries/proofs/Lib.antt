@@ -1,0 +1,14 @@
+pub mod Queues
+pub mod Jobs
+pub mod Working
+pub mod Crossing
+pub mod Answering
+pub mod Turns
+pub mod Places
+pub mod Levels
+pub mod Dealing
+pub mod Readers
+pub mod Remakes
+pub mod Merges
+pub mod Readiness
+pub mod Renewals

@@ -1,0 +1,9 @@
+pub mod Queue
+pub mod States
+pub mod Fields
+pub mod Asks
+pub mod Answers
+pub mod Asked
+pub mod Published
+pub mod Dealt
+pub mod Final

@@ -1,6 +1,0 @@
-use Rattle.std.proofs.Common.{sym, ap, ◌∙◌}
-use Rattle.query_dispatch.specs.States.{PublishersState}
-use Rattle.query_dispatch.proofs.opening.open_desks.Goals as goal
-
-pub open_queues-requires-clause-count : goal.open_queues-requires-clause-count
-open_queues-requires-clause-count g c = c.in_ok-readers_by_worker.ensures.count ∙ sym (ap (λ (s : PublishersState). s.workers) c.publishers.view_is)

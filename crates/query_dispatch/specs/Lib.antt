@@ -1,4 +1,0 @@
-pub mod States
-pub mod Published
-pub mod Dealt
-pub mod Final

@@ -1,5 +1,0 @@
-use Rattle.query_workers.proofs.Queues.{fresh_forks}
-use Rattle.query_workers.proofs.steps.split.Goals as goal
-
-pub another-requires-clause-rule : goal.another-requires-clause-rule
-another-requires-clause-rule g c = fresh_forks _ _ _ c.requires.fresh
