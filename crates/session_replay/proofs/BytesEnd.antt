@@ -1,8 +1,8 @@
 -- How the program ends on bytes, where no read and no write fails.
 use Rattle.std.proofs.Common.{◌≡◌, ℕ, ◌<◌, ◌≤◌, ◌⊎◌, inl, inr, List, length, ◌∙◌, subst, arith, Option, Some}
-use Rattle.session_replay.specs.Causes.{Rose}
+use Rattle.session_io.specs.Causes.{Rose}
 use Rattle.session_work.specs.Work.{session_limit}
-use Rattle.session_replay.specs.Traffic.{WasRead}
+use Rattle.session_io.specs.Traffic.{WasRead}
 
 -- a count that stays 0 did not rise
 pub never_rose : Rose 0 0 → ⊥

@@ -1,4 +1,3 @@
-pub mod Moved
 pub mod BytesEnd
 pub mod Replies
 pub mod Asking

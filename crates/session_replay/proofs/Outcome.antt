@@ -9,9 +9,9 @@ use Rattle.session_lines.specs.declared.fault.DecodeFault.{DecodeFault}
 use Rattle.session_lines.specs.declared.fault.DecodeFault.TheVariants.{Lines, Bad, OutOfMemory}
 use Rattle.session_more.specs.Decoding.{more_session_of_text}
 use Rattle.session_more.specs.declared.session.MoreSession.{MoreSession}
-use Rattle.session_replay.specs.Causes.{RoseBy}
+use Rattle.session_io.specs.Causes.{RoseBy}
 use Rattle.session_work.specs.Work.{session_limit}
-use Rattle.session_replay.specs.Traffic.{Had}
+use Rattle.session_io.specs.Traffic.{Had}
 use Rattle.session_replay.specs.Replay.{large_line, migrates, reads_session, refusal, Does, HasMany, IsBad, IsGood, IsPrepared, IsReady, IsRefused, IsResponse, IsWritten, RespondsToSource}
 use Rattle.session_replay.specs.declared.top.Prepared.{Prepared}
 use Rattle.session_replay.specs.declared.top.Prepared.TheVariants as prepared

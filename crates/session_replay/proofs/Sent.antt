@@ -1,11 +1,11 @@
 -- What the status says once the answer to a source was sent.
 use Rattle.std.proofs.Common.{◌≡◌, ℕ, ◌+◌, ◌<◌, ◌≤◌, ◌⊎◌, inl, inr, List, length, refl, sym, ◌∙◌, subst, arith, Option, None, Some, IfSome, Ok, Err}
 use Rattle.std.specs.Io.KnownBytes.{Appends}
-use Rattle.session_replay.specs.Causes.{Rose, RoseBy}
+use Rattle.session_io.specs.Causes.{Rose, RoseBy}
 use Rattle.session_work.specs.Work.{session_limit}
-use Rattle.session_replay.specs.Traffic.{AppendsFront, Had, WasRead, WasTaken}
+use Rattle.session_io.specs.Traffic.{AppendsFront, Had, WasRead}
 use Rattle.session_lines.specs.Words.{many_line}
-use Rattle.session_replay.specs.Replay.{large_line, Does, HasMany, IsBad, IsGood, IsOutput, IsRefused, IsResponse, RespondsToSource}
+use Rattle.session_replay.specs.Replay.{large_line, Does, HasMany, IsBad, IsGood, IsOutput, IsRefused, IsResponse, RespondsToSource, WasTaken}
 use Rattle.command_words.specs.declared.command.Task.{Task}
 use Rattle.session_replay.specs.declared.top.Status.{Status}
 use Rattle.session_replay.specs.declared.top.Status.TheVariants as status

@@ -1,5 +1,5 @@
 -- What an input comes to.
-use Rattle.std.specs.Prelude.{⊤, ◌≡◌, ◌&&◌, not, ℕ, ◌<◌, ◌≤◌, ◌⊎◌, List, length, map, nat_lt, codes, Option, Result, Ok, Err, if◌then◌else◌, Bool, false, true}
+use Rattle.std.specs.Prelude.{⊤, ◌≡◌, ◌&&◌, not, ℕ, ◌+◌, ◌<◌, ◌≤◌, ◌⊎◌, List, length, map, nat_lt, codes, Option, Result, Ok, Err, if◌then◌else◌, Bool, false, true}
 use Rattle.session_lines.specs.Cut.{lines_of}
 use Rattle.op_wire.specs.declared.fault.WireFault.{WireFault}
 use Rattle.record_lines.specs.Unpacking.{lines_of_stream}
@@ -14,7 +14,8 @@ use Rattle.session_more.specs.Reports.{more_line_text, more_report_text, more_se
 use Rattle.session_more.specs.declared.session.MoreSession.{MoreSession}
 use Rattle.session_work.specs.MoreWork.{IsMoreSession}
 use Rattle.session_work.specs.Work.{session_limit}
-use Rattle.session_replay.specs.Traffic.{WasRead, WasTaken}
+use Rattle.session_io.specs.Causes.{RoseBy}
+use Rattle.session_io.specs.Traffic.{Had, WasRead}
 use Rattle.session_writer.specs.Migrated.{IsMigrated, migrated_text}
 use Rattle.session_work.specs.Making.{Makes}
 use Rattle.session_replay.specs.Replies.{AreReplies, IsReport, Reply, reply_line}
@@ -182,6 +183,13 @@ abbrev pub IsOutput : Task → List ℕ → List ℕ → Type 0
 IsOutput c input output = ((length input ≤ session_limit) × Does c input output) ⊎ Refuses c input output
 
 -- ---- what a command ends with
+
+-- the source had this input left, and gave all of it, or more than a session may have
+pub record WasTaken (left left_after : Option (List ℕ))
+    (given given_after ends ends_after : ℕ) (input : List ℕ) : Type 0 where
+  pub had : Had left input
+  pub whole : length input ≤ session_limit → WasRead left left_after given given_after ends ends_after input
+  pub large : session_limit < length input → RoseBy (session_limit + 1) given given_after
 
 -- the input was read to its end, and the output is what the task makes of it; a session that is made is not read
 abbrev pub Ends : Command → (left left_after : Option (List ℕ)) → (given given_after ends ends_after : ℕ)

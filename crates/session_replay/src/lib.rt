@@ -6,23 +6,17 @@
 #![tactic(auto)]
 
 mod beside;
-mod counts;
 mod laws;
-mod memory;
-mod outside;
 mod sure;
 mod text_query;
 mod top;
-mod traffic;
 
-pub use counts::ReadCounts;
 pub use laws::{
     migrated_reports_alike, old_reports_stay, plain_with_workers, plain_without_queries,
     plain_without_workers, records_are_plain, refusals_are_plain,
 };
-pub use memory::{MemSink, MemSource, SureSink, SureSource};
 pub use op_model::OutOfMemory;
-pub use outside::{Failed, Sink, Source};
 pub use queries::Gate;
+pub use session_io::{Failed, MemSink, MemSource, ReadCounts, Sink, Source, SureSink, SureSource};
 pub use sure::run_on_bytes;
 pub use top::{Status, run};

@@ -6,9 +6,9 @@ ghost use Rattle.command_words.specs.declared.command.Task.{Task};
 ghost use Rattle.session_replay.specs.Replay.{HasMany, IsBad, IsGood, IsRefused};
 ghost use Rattle.session_work.specs.Work.{session_limit};
 
-use crate::memory::{SureSink, SureSource};
 use crate::top::{Status, run};
 use queries::Gate;
+use session_io::{SureSink, SureSource};
 use std::alloc::Global;
 use std::sync::Wait;
 use std::thread::Threads;

@@ -1,9 +1,9 @@
 //! The top call.
 ghost use Rattle.std.specs.Prelude.{◌≡◌, ◌≤◌, ◌<◌, ◌+◌, ◌⊎◌, ℕ, List, length, string_bytes, false, true, IfOk, IfSome, IsErrOf, Ok, Err, Some, None};
 ghost use Rattle.std.specs.Io.KnownBytes.{Appends};
-ghost use Rattle.session_replay.specs.Causes.{Rose, RoseBy};
+ghost use Rattle.session_io.specs.Causes.{Rose, RoseBy};
 ghost use Rattle.session_work.specs.Work.{session_limit};
-ghost use Rattle.session_replay.specs.Traffic.{AppendsFront, WasRead, WasTaken};
+ghost use Rattle.session_io.specs.Traffic.{AppendsFront, WasRead};
 ghost use Rattle.command_words.specs.Words.{clap_takes, command_of};
 ghost use Rattle.command_words.specs.declared.command.Command.{Command};
 ghost use Rattle.command_words.specs.declared.command.Task.{Task};
@@ -16,18 +16,17 @@ ghost use Rattle.session_more.specs.declared.session.MoreSession.{MoreSession};
 ghost use Rattle.session_work.specs.Making.{Makes};
 ghost use Rattle.session_work.specs.MoreWork.{IsMoreSession};
 ghost use Rattle.session_replay.specs.Replies.{IsReport};
-ghost use Rattle.session_replay.specs.Replay.{Does, Ends, HasMany, IsBad, IsGood, IsOutput, IsPrepared, IsReady, IsRefused, IsWritten, PreparesSource, RespondsToSource, large_line, migrates, reads_session, refusal, usage_line, works};
+ghost use Rattle.session_replay.specs.Replay.{Does, Ends, HasMany, IsBad, IsGood, IsOutput, IsPrepared, IsReady, IsRefused, IsWritten, PreparesSource, RespondsToSource, WasTaken, large_line, migrates, reads_session, refusal, usage_line, works};
 ghost use Rattle.session_lines.specs.declared.fault.Word.{Word};
 ghost use Rattle.session_lines.specs.declared.fault.DecodeFault.{DecodeFault};
 
 use crate::OutOfMemory;
 use crate::beside::report_beside;
-use crate::outside::{Failed, Sink, Source};
-use crate::traffic::{InputFault, read_all, write_all};
 use command_words::{Command, Task, command_of};
 use op_wire::WireFault;
 use queries::Gate;
 use record_lines::{PackFault, fault_line, long_line, unpack};
+use session_io::{Failed, InputFault, Sink, Source, read_all, write_all};
 use session_more::{DecodeFault, MoreReport, MoreSession, Word, decode, write_line};
 use session_work::{make, pack, report};
 use session_writer::migrate;
@@ -53,6 +52,9 @@ pub enum Status {
     /// The input is larger than a session; the line that says so was written.
     TooLarge = 6,
 }
+
+// The most bytes of a session, `session_limit` of contracts.
+const LIMIT: usize = 67_108_864;
 
 const USAGE: &str =
     "usage: zedbuf replay [--workers N] | check | make --seed N --replicas N --edits N | migrate | pack | unpack\n";
@@ -297,7 +299,7 @@ fn prepare_source<I: Source>(alloc: Global, task: Task, src: &mut I) -> Result<P
     ensures answered { IsErrOf result InputFault.TooLarge → ⊥ }
     ensures bounded { I.given src.new ≤ I.given src.old + (session_limit + 1) }
 {
-    match read_all(alloc, src) {
+    match read_all(alloc, src, LIMIT) {
         Ok(input) => Ok(prepare(alloc, task, input)?),
         Err(InputFault::TooLarge) => Ok(Prepared::Response {
             status: Status::TooLarge,

@@ -1,7 +1,8 @@
 //! Calls of `run`.
 use crate::choices::Choices;
 use op_model::OutOfMemory;
-use session_replay::{Gate, MemSink, MemSource, Sink, Source, Status, run};
+use session_io::{MemSink, MemSource, Sink, Source};
+use session_replay::{Gate, Status, run};
 use std::alloc::Global;
 use std::sync::Wait;
 use std::thread::Threads;

@@ -2,7 +2,8 @@
 use crate::calls::{Passing, call, words_of};
 use crate::tally::{Host, Tally};
 use op_model::OutOfMemory;
-use session_replay::{Failed, MemSource, Source, Status, SureSink, SureSource, run_on_bytes};
+use session_io::{Failed, MemSource, Source, SureSink, SureSource};
+use session_replay::{Status, run_on_bytes};
 use std::alloc::Global;
 use std::sync::Wait;
 use std::thread::Threads;

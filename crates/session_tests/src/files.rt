@@ -4,7 +4,7 @@ use crate::case::Case;
 use crate::choices::Choices;
 use crate::tally::{Host, Tally};
 use op_model::OutOfMemory;
-use session_replay::MemSink;
+use session_io::MemSink;
 use std::alloc::Global;
 use std::rt::Files;
 use std::sync::Wait;

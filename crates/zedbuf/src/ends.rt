@@ -1,7 +1,8 @@
 //! The real input and output, and the gate that passes at once.
 ghost use Rattle.std.specs.Prelude.{None};
 
-use session_replay::{Failed, Gate, ReadCounts, Sink, Source};
+use session_io::{Failed, ReadCounts, Sink, Source};
+use session_replay::Gate;
 use std::io::{Read, Write};
 use std::sync::Wait;
 use std::thread::Threads;

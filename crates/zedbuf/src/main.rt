@@ -4,7 +4,8 @@
 mod ends;
 
 use ends::{Input, Output, Passing};
-use session_replay::{ReadCounts, Status, run};
+use session_io::ReadCounts;
+use session_replay::{Status, run};
 use std::process::ExitCode;
 use std::{env, io};
 

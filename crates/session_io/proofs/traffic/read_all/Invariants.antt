@@ -1,8 +1,7 @@
 use Rattle.std.proofs.Common.{◌≡◌, ◌+◌, ◌-◌, ◌≤◌, vec_len}
 use Rattle.std.specs.Io.KnownBytes.{Consumes}
-use Rattle.session_replay.specs.Causes.{saturating_sum}
-use Rattle.session_work.specs.Work.{session_limit}
-use Rattle.session_replay.proofs.traffic.read_all.Given as goal
+use Rattle.session_io.specs.Causes.{saturating_sum}
+use Rattle.session_io.proofs.traffic.read_all.Given as goal
 
 abbrev pub invariant-loop-all : goal.invariant-loop-all
 invariant-loop-all g l = record {
@@ -10,9 +9,9 @@ invariant-loop-all g l = record {
   taken : Consumes (g.I.Source.left l.fn.src) (g.I.Source.left l.src) l.all.items;
   given : g.I.Source.given l.src ≡ saturating_sum (g.I.Source.given l.fn.src) (vec_len l.all);
   ends : g.I.Source.ends l.fn.src ≤ g.I.Source.ends l.src;
-  within : vec_len l.all ≤ session_limit + 1;
+  within : vec_len l.all ≤ l.fn.limit + 1;
   piece : vec_len l.piece ≡ 65536;
 }
 
 abbrev pub decreases-loop-all : goal.decreases-loop-all
-decreases-loop-all g l = (session_limit + 1) - vec_len l.all
+decreases-loop-all g l = (l.fn.limit + 1) - vec_len l.all

@@ -18,7 +18,7 @@ pub struct MemSource {
 }
 
 impl MemSource {
-    ghost use Rattle.session_replay.specs.Memory.{source_left, source_counts};
+    ghost use Rattle.session_io.specs.Memory.{source_left, source_counts};
 
     /// A source of these bytes that gives at most `most` of them a call, and fails at the calls listed, counted from 1.
     pub fn new(bytes: Vec<u8>, most: usize, failing: Vec<u64>) -> MemSource
@@ -106,7 +106,7 @@ pub struct MemSink {
 }
 
 impl MemSink {
-    ghost use Rattle.session_replay.specs.Memory.{sink_bytes, sink_faults, sink_room, sink_most};
+    ghost use Rattle.session_io.specs.Memory.{sink_bytes, sink_faults, sink_room, sink_most};
 
     /// A sink with room for this many bytes that takes at most `most` of them a call, and fails at the calls listed,
     /// counted from 1. A nonempty piece into full room is a failure too.
@@ -175,7 +175,7 @@ pub struct SureSource {
 }
 
 impl SureSource {
-    ghost use Rattle.session_replay.specs.Memory.{sure_left};
+    ghost use Rattle.session_io.specs.Memory.{sure_left};
 
     /// A source of these bytes.
     pub fn new(bytes: Vec<u8>) -> SureSource

@@ -2,7 +2,7 @@
 ghost use Rattle.std.specs.Prelude.{◌≡◌, ◌<◌, ℕ, List, Option, IfOk, length};
 ghost use Rattle.std.specs.Io.{ReadsAtMost, WritesAtMost};
 ghost use Rattle.std.specs.Io.KnownBytes.{ReadConsumes, WriteAppends};
-ghost use Rattle.session_replay.specs.Causes.{HasCause, saturating_sum, byte_count, ends_met};
+ghost use Rattle.session_io.specs.Causes.{HasCause, saturating_sum, byte_count, ends_met};
 
 use thiserror::Error;
 

@@ -1,8 +1,7 @@
 -- What a whole read or a write did to the known bytes and to the counts.
-use Rattle.std.specs.Prelude.{◌≡◌, ℕ, ◌+◌, ◌<◌, ◌≤◌, List, ◌++◌, length, take, Option, IfSome}
+use Rattle.std.specs.Prelude.{◌≡◌, ℕ, ◌≤◌, List, ◌++◌, length, take, Option, IfSome}
 use Rattle.std.specs.Io.KnownBytes.{Appends, Consumes, IsAtEnd}
-use Rattle.session_work.specs.Work.{session_limit}
-use Rattle.session_replay.specs.Causes.{saturating_sum, end_met, Rose, RoseBy}
+use Rattle.session_io.specs.Causes.{saturating_sum, end_met, Rose}
 
 -- some front of the text was written
 abbrev pub AppendsFront : Option (List ℕ) → Option (List ℕ) → List ℕ → Type 0
@@ -19,13 +18,6 @@ pub record WasRead (left left_after : Option (List ℕ))
   pub at_end : IsAtEnd left_after
   pub count : given_after ≡ saturating_sum given (length input)
   pub ended : Rose ends ends_after
-
--- the source had this input left, and gave all of it, or more than a session may have
-pub record WasTaken (left left_after : Option (List ℕ))
-    (given given_after ends ends_after : ℕ) (input : List ℕ) : Type 0 where
-  pub had : Had left input
-  pub whole : length input ≤ session_limit → WasRead left left_after given given_after ends ends_after input
-  pub large : session_limit < length input → RoseBy (session_limit + 1) given given_after
 
 -- n bytes moved from a source to the end of a list, none only at the source's end
 pub record Moves (left left_after : Option (List ℕ)) (all all_after : List ℕ) (n : ℕ) : Type 0 where

@@ -1,6 +1,6 @@
 //! What a source counts.
 ghost use Rattle.std.specs.Prelude.{◌≡◌};
-ghost use Rattle.session_replay.specs.Causes.{saturating_sum, end_met};
+ghost use Rattle.session_io.specs.Causes.{saturating_sum, end_met};
 
 /// The counts of a source: bytes given, reads that met the end, and reads that failed. None of them passes 2^64 - 1.
 #[derive(Clone, Copy, Debug, PartialEq, Eq)]

@@ -1,16 +1,12 @@
 //! Reading a source to its end, and writing a text whole.
 ghost use Rattle.std.specs.Prelude.{◌≡◌, ◌<◌, ◌≤◌, ◌+◌, ◌^◌, ℕ, List, length, IfOk, IfSome, OnOk, OnErr, IsErrOf, vec_len};
 ghost use Rattle.std.specs.Io.KnownBytes.{Appends};
-ghost use Rattle.session_replay.specs.Causes.{HasCause, Rose, RoseBy};
-ghost use Rattle.session_work.specs.Work.{session_limit};
-ghost use Rattle.session_replay.specs.Traffic.{AppendsFront, Counts, Had, Moves, WasRead};
-ghost use Rattle.session_replay.specs.declared.traffic.InputFault.{InputFault};
+ghost use Rattle.session_io.specs.Causes.{HasCause, Rose, RoseBy};
+ghost use Rattle.session_io.specs.Traffic.{AppendsFront, Counts, Had, Moves, WasRead};
+ghost use Rattle.session_io.specs.declared.traffic.InputFault.{InputFault};
 
 use crate::{Failed, OutOfMemory, Sink, Source};
 use std::alloc::{AllocFailed, Global};
-
-/// The most bytes of a session, `session_limit` of contracts.
-const LIMIT: usize = 67_108_864;
 
 /// How many bytes the source is asked for at a time.
 const PIECE: usize = 65_536;
@@ -68,23 +64,27 @@ fn read_piece<I: Source>(
     Ok(count)
 }
 
-/// All that the source has left, at most `LIMIT` bytes. No more than one byte past the limit is taken.
-pub fn read_all<I: Source>(alloc: Global, src: &mut I) -> Result<Vec<u8>, InputFault>
+/// All that the source has left, at most `limit` bytes. No more than one byte past the limit is taken.
+///
+/// # Errors
+///
+/// [`InputFault::TooLarge`] if there are more bytes, [`InputFault::Failed`] if a read fails, or `OutOfMemory`.
+pub fn read_all<I: Source>(alloc: Global, src: &mut I, limit: usize) -> Result<Vec<u8>, InputFault>
     ensures whole { IfOk result (λ v. WasRead (I.left src.old) (I.left src.new) (I.given src.old)
         (I.given src.new) (I.ends src.old) (I.ends src.new) v.items) }
-    ensures small { IfOk result (λ v. length v.items ≤ session_limit) }
+    ensures small { IfOk result (λ v. length v.items ≤ limit) }
     ensures large { IsErrOf result InputFault.TooLarge
-        → (input : List ℕ) × Had (I.left src.old) input × (session_limit < length input) }
+        → (input : List ℕ) × Had (I.left src.old) input × (limit < length input) }
     ensures passed { IsErrOf result InputFault.TooLarge
-        → RoseBy (session_limit + 1) (I.given src.old) (I.given src.new) }
+        → RoseBy (limit + 1) (I.given src.old) (I.given src.new) }
     ensures failed { IsErrOf result InputFault.Failed → Rose (I.faults src.old) (I.faults src.new) }
     ensures later { I.faults src.old ≤ I.faults src.new }
-    ensures bounded { I.given src.new ≤ I.given src.old + (session_limit + 1) }
+    ensures bounded { I.given src.new ≤ I.given src.old + (limit + 1) }
 {
     let mut all = Vec::new(alloc);
     let mut piece = buffer(alloc, PIECE)?;
-    while all.len() <= LIMIT {
-        let room = PIECE.min(LIMIT + 1 - all.len());
+    while all.len() <= limit {
+        let room = (limit - all.len()).min(PIECE - 1) + 1;
         let count = read_piece(src, &mut piece[..room], &mut all)?;
         if count == 0 {
             return Ok(all);
@@ -94,6 +94,10 @@ pub fn read_all<I: Source>(alloc: Global, src: &mut I) -> Result<Vec<u8>, InputF
 }
 
 /// Writes the text to its end.
+///
+/// # Errors
+///
+/// [`Failed`] if a write fails. A prefix of the text is then written.
 pub fn write_all<O: Sink>(out: &mut O, text: &[u8]) -> Result<(), Failed>
     ensures ok { OnOk result (Appends (O.written out.old) (O.written out.new) text.now) }
     ensures err { OnErr result (AppendsFront (O.written out.old) (O.written out.new) text.now) }

@@ -1,6 +1,6 @@
 -- Known bytes that move in several pieces.
 use Rattle.std.proofs.Common.{◌≡◌, ℕ, ◌+◌, ◌-◌, ◌<◌, List, ◌++◌, length, take, drop, refl, sym, ap, ◌∙◌, subst, arith, None, Some, Option, length-append, append-nil}
-use Rattle.session_replay.specs.Traffic.{Moves, Had}
+use Rattle.session_io.specs.Traffic.{Moves, Had}
 use Rattle.std.specs.Io.KnownBytes.{Appends, Consumes, IsAtEnd}
 use Rattle.std.proofs.KnownBytes.{Appends-trans}
 use Rattle.std.proofs.Math.Seq.{take-add}

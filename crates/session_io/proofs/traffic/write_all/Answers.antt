@@ -1,7 +1,7 @@
 use Rattle.std.proofs.Common.{arith, ap, length, length-drop}
 use Rattle.std.proofs.lemmas.List.{take_rest}
-use Rattle.session_replay.proofs.Moved.{more_written}
-use Rattle.session_replay.proofs.traffic.write_all.Goals as goal
+use Rattle.session_io.proofs.Moved.{more_written}
+use Rattle.session_io.proofs.traffic.write_all.Goals as goal
 
 pub loop-done-preserved : goal.loop-done-preserved
 loop-done-preserved g c = record {

@@ -1,9 +1,9 @@
 -- What the sources and sinks in memory hold.
 use Rattle.std.specs.Prelude.{ℕ, List, drop}
-use Rattle.session_replay.specs.declared.memory.MemSource.{MemSource}
-use Rattle.session_replay.specs.declared.memory.MemSink.{MemSink}
-use Rattle.session_replay.specs.declared.memory.SureSource.{SureSource}
-use Rattle.session_replay.specs.declared.counts.ReadCounts.{ReadCounts}
+use Rattle.session_io.specs.declared.memory.MemSource.{MemSource}
+use Rattle.session_io.specs.declared.memory.MemSink.{MemSink}
+use Rattle.session_io.specs.declared.memory.SureSource.{SureSource}
+use Rattle.session_io.specs.declared.counts.ReadCounts.{ReadCounts}
 
 abbrev pub source_left : MemSource → List ℕ
 source_left s = drop s.at s.bytes.items
