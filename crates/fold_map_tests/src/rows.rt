@@ -230,6 +230,21 @@ const ROWS: &[Row] = &[
         ],
     },
     Row {
+        name: "another author's text that joins two ellipses",
+        base: "abcdefg",
+        steps: &[
+            Step::Fold(1, 4),
+            Step::Fold(2, 6),
+            Step::Theirs(3, 3, "Z"),
+            Step::Edit(2, 4, ""),
+            Step::Shows("a⋯⋯g"),
+            Step::Meet,
+            Step::Shows("a⋯g"),
+            Step::Unfold(1, 2, 1),
+            Step::Shows("ab⋯g"),
+        ],
+    },
+    Row {
         name: "an edit far from the folds",
         base: "abcdefghij",
         steps: &[
