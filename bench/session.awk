@@ -5,6 +5,7 @@
 #   late     two replicas, random insertions in rounds of `lag` of each, given to the other after each round
 #   authors  four replicas, random insertions in rounds of ten each, exchanged after each round
 #   rounds   four replicas, each of which types or takes back some letters in a round, exchanged after each round
+#   excerpts two replicas, `excerpt` and `medit` lines alone: a name gets ten excerpts of the replicas in turn, then ten edits of them
 # One replica more takes the edits of all, but for `late`, where `taken` is
 #   each     at once, or with the others after each round
 #   ordered  behind the last edit, from the first to the last
@@ -204,6 +205,34 @@ function authors_round(    from, r, i, here, grown) {
     exchange(from)
 }
 
+# Ten excerpts of 16 bytes under a name of their own, of the two replicas in turn, and ten edits of their text, each of which puts a letter
+# after the first byte of an excerpt of either replica.
+function excerpt_round(    name, i, r, part, start, size, at) {
+    name = "e" ++rounds
+    for (i = 0; i < 10 && made < count; i++) {
+        r = 1 + i % 2
+        part = int(length_of[r] / 5)
+        start = int(i / 2) * part + below(part - 16)
+        printf "[\"excerpt\",\"%s\",%d,%d,%d]\n", name, r, start, start + 16
+        size[i] = 16
+        made++
+    }
+    while (i-- > 0 && made < count) {
+        part = 2 * below(5)
+        at = 1
+        for (r = 0; r < part; r++)
+            at += size[r] + 1
+        printf "[\"medit\",\"%s\",[[%d,%d,\"%s\"],", name, at, at, letters(1)
+        at += size[part] + 1
+        printf "[%d,%d,\"%s\"]]]\n", at, at, letters(1)
+        for (r = 1; r <= 2; r++) {
+            size[part + r - 1]++
+            length_of[r]++
+        }
+        made++
+    }
+}
+
 # the number of the i-th edit that is undone
 function undone_edit(i,    number) {
     if (order == "first")
@@ -221,15 +250,15 @@ BEGIN {
     if (kind == "reverse") { kind = "typing"; taken = "reverse" }
     words = split("the of and to in is that for it as was with be by on not but at are this have from or an they which one you were " \
         "all there would their we when will more if out so said what about than into them only other new some could time these two", word)
-    authors = kind == "authors" || kind == "rounds" ? 4 : kind == "late" ? 2 : 1
+    authors = kind == "authors" || kind == "rounds" ? 4 : kind == "late" || kind == "excerpts" ? 2 : 1
     replicas = authors + (taken != "")
-    printf "[\"zedbuf\",1,\""
+    printf "[\"zedbuf\",%d,\"", kind == "excerpts" ? 2 : 1
     write_base(bytes)
     ids = "1"
     for (r = 2; r <= replicas; r++)
         ids = ids "," r
     print "\",[" ids "]]"
-    len = bytes
+    len = length_of[1] = length_of[2] = bytes
     made = caret = 0
     while (made < count) {
         if (kind == "random") short_edit()
@@ -237,6 +266,7 @@ BEGIN {
         if (kind == "paper") write_on()
         if (kind == "late") late_round()
         if (kind == "authors" || kind == "rounds") authors_round()
+        if (kind == "excerpts") excerpt_round()
     }
     edits = made
     for (i = 1; i <= edits && taken ~ /ordered|reverse|beside/; i++) {
