@@ -5,6 +5,7 @@
 #   late     two replicas, random insertions in rounds of `lag` of each, given to the other after each round
 #   authors  four replicas, random insertions in rounds of ten each, exchanged after each round
 #   rounds   four replicas, each of which types or takes back some letters in a round, exchanged after each round
+#   folds    one replica, short edits as of random, and behind each a `fold` line of a range of 1 to 63 bytes
 #   excerpts two replicas, `excerpt` and `medit` lines alone: a name gets ten excerpts of the replicas in turn, then ten edits of them
 # One replica more takes the edits of all, but for `late`, where `taken` is
 #   each     at once, or with the others after each round
@@ -71,6 +72,12 @@ function short_edit(    start, gone, new) {
     new = 1 + below(8)
     len += new - gone
     edit(1, start, start + gone, letters(new))
+}
+
+# folds a range of replica 1 that is drawn by chance
+function fold_range(    start) {
+    start = below(len - 63)
+    printf "[\"fold\",1,%d,%d]\n", start, start + 1 + below(63)
 }
 
 function type_letter() {
@@ -252,7 +259,7 @@ BEGIN {
         "all there would their we when will more if out so said what about than into them only other new some could time these two", word)
     authors = kind == "authors" || kind == "rounds" ? 4 : kind == "late" || kind == "excerpts" ? 2 : 1
     replicas = authors + (taken != "")
-    printf "[\"zedbuf\",%d,\"", kind == "excerpts" ? 2 : 1
+    printf "[\"zedbuf\",%d,\"", kind == "excerpts" || kind == "folds" ? 2 : 1
     write_base(bytes)
     ids = "1"
     for (r = 2; r <= replicas; r++)
@@ -261,7 +268,8 @@ BEGIN {
     len = length_of[1] = length_of[2] = bytes
     made = caret = 0
     while (made < count) {
-        if (kind == "random") short_edit()
+        if (kind == "random" || kind == "folds") short_edit()
+        if (kind == "folds") fold_range()
         if (kind == "typing") type_letter()
         if (kind == "paper") write_on()
         if (kind == "late") late_round()
